@@ -1,13 +1,12 @@
 -- What a publish does to what is shown and to what waits.
-use Rattle.std.proofs.Common.{◌≡◌, ℕ, List, [], ◌∷◌, ◌++◌, map, refl, sym, ap, ◌∙◌, subst, append-nil}
+use Rattle.std.proofs.Common.{◌≡◌, ℕ, List, [], ◌∷◌, ◌++◌, refl, sym, ap, ◌∙◌, subst, append-nil}
 use Rattle.std.specs.Prelude.{All, fold}
 use Rattle.std.proofs.lemmas.List.Elements.{All-append}
 use Rattle.crossbeam_utils.specs.Register.{TurnsAt}
-use Rattle.ledger_bytes.specs.declared.digest.Digest.{Digest}
 use Rattle.proof_board.specs.declared.view.Growth.{Growth}
 use Rattle.proof_board.specs.declared.view.View.{View}
 use Rattle.proof_board.specs.declared.shown.Growing.{Growing}
-use Rattle.proof_board.specs.History.{Digests, Mark, IsWide, all_leaves}
+use Rattle.proof_board.specs.History.{Digests, Mark, IsWide, all_leaves, leaves_of}
 use Rattle.proof_board.specs.Growing.{grown}
 use Rattle.proof_board.specs.Rule.{KeepsRule, Saw}
 use Rattle.proof_board.specs.Words.{leaves_in}
@@ -15,10 +14,10 @@ use Rattle.proof_board.proofs.Fronts.{leaves_push}
 use Rattle.proof_board.proofs.Steps.{goes}
 
 abbrev digests : Growing → Digests
-digests op = map (λ (d : Digest). d.0) op.leaves.items
+digests op = leaves_of op.stretches.items
 
 -- the snapshot takes one batch, with which the history goes on
-pub publishes : (port : ℕ) (v : View) (x : Growth) (op : Growing) (ops : List Growing) (at : Mark) → at ≡ x.at → op.at.book ≡ at.book → op.at.log ≡ at.log ++ map (λ (d : Digest). d.0) op.leaves.items ∷ [] → ops ≡ op ∷ [] → All IsWide (digests op)
+pub publishes : (port : ℕ) (v : View) (x : Growth) (op : Growing) (ops : List Growing) (at : Mark) → at ≡ x.at → op.at.book ≡ at.book → op.at.log ≡ at.log ++ leaves_of op.stretches.items ∷ [] → ops ≡ op ∷ [] → All IsWide (digests op)
     → (next : Growth) → next ≡ fold grown x ops → TurnsAt KeepsRule port v x next (λ v x y w. Saw v y w)
 publishes port v x op ops at same book log all wide next is =
     let is' : next ≡ grown x op = is ∙ ap (fold grown x) all in
@@ -34,7 +33,7 @@ unfolding leaves_in
 waits ops batch none = ap (λ l. leaves_in l ++ batch) none
 
 -- what was handed on waits still
-pub waits_on : (op : Growing) (ops old : List Growing) (rest : Digests) → ops ≡ op ∷ [] → rest ≡ [] → old ≡ [] → leaves_in ops ++ rest ≡ leaves_in old ++ map (λ (d : Digest). d.0) op.leaves.items
+pub waits_on : (op : Growing) (ops old : List Growing) (rest : Digests) → ops ≡ op ∷ [] → rest ≡ [] → old ≡ [] → leaves_in ops ++ rest ≡ leaves_in old ++ leaves_of op.stretches.items
 unfolding leaves_in
 waits_on op ops old rest all none before =
     ap (λ l. leaves_in l ++ rest) all ∙ ap (λ r. (digests op ++ []) ++ r) none ∙ append-nil (digests op ++ []) ∙ append-nil (digests op) ∙ sym (ap (λ l. leaves_in l ++ digests op) before)

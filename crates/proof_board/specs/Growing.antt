@@ -1,10 +1,10 @@
 -- What a board's tree stands for, and how it grows.
-use Rattle.std.specs.Prelude.{◌≡◌, ℕ, ◌%◌, All, List, [], ◌∷◌, ◌++◌, length, map, drop}
+use Rattle.std.specs.Prelude.{◌≡◌, ℕ, ◌%◌, All, List, [], ◌∷◌, ◌++◌, length, drop}
 use Rattle.sha2.specs.Sha256.{sha256}
 use Rattle.tree_model.specs.Peaks.{peaks as peaks_of}
 use Rattle.merkle_batch.specs.Rows.{Row, Levels, StandsFor}
 use Rattle.merkle_batch.specs.Over.{StandsOver}
-use Rattle.proof_board.specs.History.{Digests, IsWide, Mark}
+use Rattle.proof_board.specs.History.{Digests, IsWide, Mark, leaves_of}
 use Rattle.proof_board.specs.declared.view.Base.{Base}
 use Rattle.proof_board.specs.declared.view.Growth.{Growth}
 use Rattle.proof_board.specs.declared.shown.Growing.{Growing}
@@ -41,4 +41,4 @@ pub record IsHeld (tree : Levels) (peaks : Digests) : Type 0 where
 
 -- what a tree has grown to
 abbrev pub grown : Growth → Growing → Growth
-grown g op = growth g.base (g.leaves ++ map (λ d. d.0) op.leaves.items) op.at
+grown g op = growth g.base (g.leaves ++ leaves_of op.stretches.items) op.at

@@ -1,10 +1,16 @@
 -- The history of a board, its rule, and what its steps tell.
 use Rattle.std.specs.Prelude.{ℕ, ◌≡◌, ◌==◌, true, List, [], ◌∷◌, ◌++◌, length, MatchBool}
+use Rattle.std.specs.List.{flat_map}
+use Rattle.merkle_batch.specs.Stretches.{Leaves}
 use Rattle.logbook.specs.Pages.{Cell, Step, View, Book, Named}
 
 -- leaf digests, in order
 abbrev pub Digests : Type 0
 Digests = List (List ℕ)
+
+-- the leaf digests of some stretches, one after the other
+abbrev pub leaves_of : List Leaves → Digests
+leaves_of stretches = flat_map (λ s. s.leaves) stretches
 
 -- a digest has 32 bytes
 abbrev pub IsWide : List ℕ → Type 0

@@ -1,8 +1,7 @@
 -- What clauses say of a board, its writer and its passes.
-use Rattle.std.specs.Prelude.{◌≡◌, ℕ, ◌+◌, length, List, [], ◌∷◌, ◌++◌, map, drop}
-use Rattle.ledger_bytes.specs.declared.digest.Digest.{Digest}
+use Rattle.std.specs.Prelude.{◌≡◌, ℕ, ◌+◌, length, List, [], ◌∷◌, ◌++◌, drop}
 use Rattle.left_right.specs.Sides.{view}
-use Rattle.proof_board.specs.History.{Digests, Mark, all_leaves}
+use Rattle.proof_board.specs.History.{Digests, Mark, all_leaves, leaves_of}
 use Rattle.proof_board.specs.declared.view.Base.{Base}
 use Rattle.proof_board.specs.declared.view.Growth.{Growth}
 use Rattle.proof_board.specs.declared.shown.Growing.{Growing}
@@ -21,11 +20,11 @@ history_of w = (shown_by w).at.log
 -- the leaves that were handed to the snapshot and aren't published
 unfoldable pub leaves_in : List Growing → Digests
 leaves_in [] = []
-leaves_in (op ∷ ops) = map (λ (d : Digest). d.0) op.leaves.items ++ leaves_in ops
+leaves_in (op ∷ ops) = leaves_of op.stretches.items ++ leaves_in ops
 
 -- the leaves that a writer has added and not published
 abbrev pub waiting_of : BoardWriter → Digests
-waiting_of w = leaves_in (drop w.writer.behind w.writer.log.items) ++ map (λ (d : Digest). d.0) w.waiting.items
+waiting_of w = leaves_in (drop w.writer.behind w.writer.log.items) ++ leaves_of w.waiting.items
 
 -- what a pass saw last
 abbrev pub seen_by : ProverPass → Mark

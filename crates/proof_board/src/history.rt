@@ -1,10 +1,11 @@
 //! The history of a board: the batches of leaves that were published, in order. It exists in the proofs alone; its length is a word.
 ghost use Rattle.std.specs.Prelude.{◌≡◌, ◌+◌, ◌<◌, ◌^◌, ◌++◌, ◌∷◌, [], length, map, All, MatchBool};
 ghost use mathlib.Core.List.{IsPrefix};
-ghost use Rattle.proof_board.specs.History.{Mark, IsWide, head_of};
+ghost use Rattle.proof_board.specs.History.{Mark, IsWide, head_of, leaves_of};
 
-use ledger_bytes::Digest;
+use ledger_bytes::{Digest, Sha};
 use logbook::{Gain, Offer, Plain, Play, Rule, Seen, Start, Word};
+use merkle_batch::Stretch;
 use std::collections::LinkedList;
 use std::marker::Model;
 
@@ -50,13 +51,14 @@ impl Play<Batch, u64> for AddBatch {
     ghost then = { Adds };
 }
 
-/// What a step asks for: the batch of these digests.
-impl Plain<Vec<Digest>, Batch, u64> for AddBatch {
-    ghost use Rattle.std.specs.Prelude.{None, map};
+/// What a step asks for: the batch of the leaves of these stretches.
+impl Plain<Vec<Stretch<Sha>>, Batch, u64> for AddBatch {
+    ghost use Rattle.std.specs.Prelude.{None};
+    ghost use Rattle.proof_board.specs.History.{leaves_of};
 
-    ghost ask = { λ leaves. map (λ d. d.0) leaves.items };
+    ghost ask = { λ stretches. leaves_of stretches.items };
 
-    ghost state = { λ leaves. None };
+    ghost state = { λ stretches. None };
 }
 
 /// The word of a history: its length.
@@ -120,16 +122,16 @@ impl Front {
     }
 
     /// Adds a batch to all that was seen, and says whether it did. It did not where the history is longer.
-    pub fn add(&mut self, head: &Counter, batch: &Vec<Digest>) -> bool
+    pub fn add(&mut self, head: &Counter, batch: &Vec<Stretch<Sha>>) -> bool
         requires head { head.now ≡ head_of self.old.book }
         requires room { length self.old.log < 2 ^ 62 }
         ensures book { self.new.book ≡ self.old.book }
-        ensures log { MatchBool result (self.new.log ≡ self.old.log ++ map (λ d. d.0) batch.now.items ∷ [])
+        ensures log { MatchBool result (self.new.log ≡ self.old.log ++ leaves_of batch.now.items ∷ [])
             (IsPrefix self.old.log self.new.log) }
     {
         let mut offer: Offer<Batch, u64, ByLength, NoGain> = self
             .seen
-            .plain::<NoGain, Vec<Digest>, AddBatch>(batch);
+            .plain::<NoGain, Vec<Stretch<Sha>>, AddBatch>(batch);
         let mut pen = self.seen.no_pen();
         let count = self.count;
         let found = head.compare_exchange::<AddBatch, NoGain>(

@@ -17,6 +17,7 @@ mod provers;
 mod proving;
 mod rule;
 mod shown;
+mod stretches;
 mod view;
 mod writer;
 mod writing;

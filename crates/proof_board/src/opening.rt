@@ -1,24 +1,25 @@
 //! How a board is opened.
 
-ghost use Rattle.std.specs.Prelude.{◌≡◌, ◌-◌, ◌<◌, ◌≤◌, ◌+◌, ◌^◌, List, ℕ, [], ◌∷◌, length, map, take, drop, All, IfOk, OnOk, vec_len};
+ghost use Rattle.std.specs.Prelude.{◌≡◌, ◌-◌, ◌<◌, ◌≤◌, ◌+◌, ◌^◌, List, ℕ, [], ◌∷◌, length, take, drop, All, IfOk, OnOk, vec_len};
 ghost use Rattle.sha2.specs.Sha256.{sha256};
 ghost use Rattle.merkle_batch.specs.Rows.{StandsFor};
 ghost use Rattle.left_right.specs.Sides.{view};
-ghost use Rattle.proof_board.specs.History.{IsWide, all_leaves};
+ghost use Rattle.proof_board.specs.History.{IsWide, all_leaves, leaves_of};
 ghost use Rattle.proof_board.specs.Growing.{IsListOf};
 ghost use Rattle.proof_board.specs.Rule.{aware_of};
 ghost use Rattle.proof_board.specs.Words.{shown_by, history_of, waiting_of, told_to, seen_by, base_in, IsNew, IsPassOf, IsWriterOf};
 
 use crate::board::Board;
-use crate::history::{Front, are_wide};
+use crate::history::Front;
 use crate::pass::ProverPass;
 use crate::rule::{Grows, Sees, Starts, Tells};
 use crate::shown::{Growing, Shown};
+use crate::stretches::are_all_wide;
 use crate::view::View;
 use crate::writer::BoardWriter;
-use ledger_bytes::{Digest, NoMemory, Sha};
+use ledger_bytes::{NoMemory, Sha};
 use left_right::writer::Writer;
-use merkle_batch::Tree;
+use merkle_batch::{Stretch, Tree};
 use std::alloc::Global;
 use std::sync::Wait;
 
@@ -48,21 +49,19 @@ fn split(writer: &mut Writer<Shown, Growing, View, Grows>) -> Result<ProverPass,
     })
 }
 
-// The digests of the leaves that a tree keeps.
-fn leaves_of(alloc: Global, tree: &Tree<Sha>) -> Result<Vec<Digest>, NoMemory>
+// The leaves that a tree keeps, as one stretch.
+fn kept(alloc: Global, tree: &Tree<Sha>) -> Result<Vec<Stretch<Sha>>, NoMemory>
     requires { tree.now.floor < tree.now.size }
     ensures digests { IfOk result (λ v. (ds : List (List ℕ)) → StandsFor sha256 tree.now ds
-        → map (λ d. d.0) v.items ≡ take (tree.now.size - tree.now.floor) (drop tree.now.floor ds)) }
-    ensures count { IfOk result (λ v. length v.items ≡ tree.now.size - tree.now.floor) }
+        → leaves_of v.items ≡ take (tree.now.size - tree.now.floor) (drop tree.now.floor ds)) }
+    ensures count { IfOk result (λ v. length (leaves_of v.items) ≡ tree.now.size - tree.now.floor) }
 {
-    let mut leaves = Vec::new(alloc);
-    for n in tree.floor()..tree.size() {
-        let Ok(leaf) = tree.leaf(n) else {
-            unreachable!()
-        };
-        leaves.push(leaf)?;
-    }
-    Ok(leaves)
+    let Ok(stretch) = tree.stretch(tree.floor(), tree.size()) else {
+        return Err(NoMemory);
+    };
+    let mut stretches = Vec::new(alloc);
+    stretches.push(stretch)?;
+    Ok(stretches)
 }
 
 // A writer over two copies of a tree, which knows what it shows. Where memory is missing its copies are taken back.
@@ -143,19 +142,16 @@ pub fn open_board<R: Wait>(
     let Ok(peaks) = tree.peaks_at(floor) else {
         return Err(NoMemory);
     };
-    let leaves = leaves_of(alloc, tree)?;
-    if leaves.len() >= 1 << 62 {
-        return Err(NoMemory);
-    }
-    are_wide(leaves.as_slice());
+    let leaves = kept(alloc, tree)?;
+    are_all_wide(leaves.as_slice());
     let (mut at, counter) = Front::new();
     if !at.add(&counter, &leaves) {
         return Err(NoMemory);
     }
     let room = room as usize;
-    let (known, kept) = (peaks.as_slice(), leaves.as_slice());
-    let first = Shown::new(alloc, floor, known, kept, room, at.again())?;
-    let second = Shown::new(alloc, floor, known, kept, room, at.again())?;
+    let (known, held) = (peaks.as_slice(), leaves.as_slice());
+    let first = Shown::new(alloc, floor, known, held, room, at.again())?;
+    let second = Shown::new(alloc, floor, known, held, room, at.again())?;
     let mut writer = writer_of(rt, alloc, first, second, provers)?;
     match split_all(alloc, &mut writer, provers) {
         Ok(passes) => {

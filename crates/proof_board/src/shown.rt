@@ -2,14 +2,16 @@
 
 ghost use Rattle.std.specs.Prelude.{◌≡◌, ◌≤◌, ◌<◌, ◌+◌, ◌^◌, ◌++◌, [], length, map, count_ones, IfOk, OnOk, OnErr};
 ghost use Rattle.proof_board.specs.Growing.{growth, base_of};
+ghost use Rattle.proof_board.specs.History.{leaves_of};
 ghost use Rattle.proof_board.specs.Answers.{IsShownHead, AnswersOver};
 
 use crate::bare::bare;
 use crate::board::BoardErr;
 use crate::history::Front;
+use crate::stretches::{add_all, count_of};
 use ledger_bytes::{Bytes, Digest, NoMemory, Sha};
 use left_right::Absorb;
-use merkle_batch::Tree;
+use merkle_batch::{Stretch, Tree};
 use merkle_tree::Head;
 use std::alloc::{AllocError, Global};
 use std::marker::Model;
@@ -34,31 +36,34 @@ impl Model for Shown {
     ghost invariant = { λ s. IsHeld s.tree (map (λ d. d.0) s.peaks.items) };
 }
 
-/// Leaves that are added, and the batches of which all are then made.
+/// Stretches of leaves that are added, and the batches of which all leaves are then made.
 #[derive(Drop)]
 pub struct Growing {
-    pub leaves: Vec<Digest>,
+    pub stretches: Vec<Stretch<Sha>>,
     pub at: Front,
 }
 
 impl Shown {
-    /// The tree over a base and these leaves, with room for so many more.
+    /// The tree over a base and the leaves of these stretches, with room for so many more.
     pub fn new(
         alloc: Global,
         floor: u64,
         peaks: &[Digest],
-        leaves: &[Digest],
+        stretches: &[Stretch<Sha>],
         room: usize,
         at: Front,
     ) -> Result<Shown, NoMemory>
         requires ones { length peaks.now ≡ count_ones floor }
-        requires small { floor + length leaves.now < 2 ^ 63 }
+        requires small { floor + length (leaves_of stretches.now) < 2 ^ 63 }
         ensures { IfOk result (λ s. s
-            ≡ growth (base_of floor (map (λ d. d.0) peaks.now)) (map (λ d. d.0) leaves.now) at) }
+            ≡ growth (base_of floor (map (λ d. d.0) peaks.now)) (leaves_of stretches.now) at) }
     {
+        let Some(count) = count_of(stretches) else {
+            return Err(NoMemory);
+        };
         let mut tree = Tree::<Sha>::from_peaks(alloc, floor, peaks)?;
-        tree.reserve(leaves.len())?;
-        tree.add_leaves(leaves);
+        tree.reserve(count as usize)?;
+        add_all(&mut tree, stretches);
         tree.reserve(room)?;
         let mut kept = Vec::new(alloc);
         kept.extend_from_slice(peaks)?;
@@ -119,19 +124,22 @@ impl Shown {
         }
     }
 
-    // Adds leaves, where there is room for them.
-    fn grow(&mut self, leaves: &[Digest], at: Front) -> Result<(), AllocError>
+    // Adds the leaves of some stretches, where there is room for them.
+    fn grow(&mut self, stretches: &[Stretch<Sha>], at: Front) -> Result<(), AllocError>
         ensures ok { OnOk result (self.new
-            ≡ growth self.old.base (self.old.leaves ++ map (λ d. d.0) leaves.now) at) }
+            ≡ growth self.old.base (self.old.leaves ++ leaves_of stretches.now) at) }
         ensures err { OnErr result (self.new ≡ self.old) }
     {
-        if self.tree.size() >= 1 << 62 || leaves.len() >= 1 << 62 {
-            return Err(AllocError);
-        }
-        let Ok(()) = self.tree.reserve(leaves.len()) else {
+        let Some(count) = count_of(stretches) else {
             return Err(AllocError);
         };
-        self.tree.add_leaves(leaves);
+        if self.tree.size() >= 1 << 62 || count >= 1 << 62 {
+            return Err(AllocError);
+        }
+        let Ok(()) = self.tree.reserve(count as usize) else {
+            return Err(AllocError);
+        };
+        add_all(&mut self.tree, stretches);
         self.at = at;
         Ok(())
     }
@@ -147,6 +155,6 @@ impl Absorb<Growing> for Shown {
     ghost applied = { grown };
 
     fn absorb_first(&mut self, operation: &Growing, _other: &Shown) -> Result<(), AllocError> {
-        self.grow(operation.leaves.as_slice(), operation.at.again())
+        self.grow(operation.stretches.as_slice(), operation.at.again())
     }
 }

@@ -7,8 +7,9 @@ use crate::history::Counter;
 use crate::rule::Grows;
 use crate::shown::{Growing, Shown};
 use crate::view::View;
-use ledger_bytes::Digest;
+use ledger_bytes::Sha;
 use left_right::writer::Writer;
+use merkle_batch::Stretch;
 use std::alloc::Global;
 
 /// What adds leaves to a board and publishes them. It isn't `Drop`: end it by [`close`](crate::Board::close).
@@ -16,7 +17,7 @@ pub struct BoardWriter {
     pub(crate) alloc: Global,
     pub(crate) writer: Writer<Shown, Growing, View, Grows>,
     pub(crate) counter: Counter,
-    pub(crate) waiting: Vec<Digest>,
+    pub(crate) waiting: Vec<Stretch<Sha>>,
     // Memory was missing in the middle of a publish; from then on none is there.
     pub(crate) stuck: bool,
     ghost counted: { counter ≡ head_of writer.desk.shown.value.at.book },

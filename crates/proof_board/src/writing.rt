@@ -1,18 +1,20 @@
 //! What a board's writer does.
-ghost use Rattle.std.specs.Prelude.{◌≡◌, [], ◌∷◌, ◌++◌, map, IfOk, OnOk, OnErr};
-ghost use Rattle.proof_board.specs.History.{head_of, all_leaves};
+ghost use Rattle.std.specs.Prelude.{◌≡◌, [], ◌∷◌, ◌++◌, ◌+◌, length, map, IfOk, IfSome, OnOk, OnErr};
+ghost use Rattle.proof_board.specs.History.{head_of, all_leaves, leaves_of};
 ghost use Rattle.proof_board.specs.Answers.{IsShownHead};
 ghost use Rattle.proof_board.specs.Words.{shown_by, history_of, waiting_of, told_to, seen_by, base_in};
 
-use crate::history::{Counter, Front, are_wide};
+use crate::history::{Counter, Front};
 use crate::pass::ProverPass;
 use crate::rule::{Grows, Sees};
 use crate::shown::{Growing, Shown};
+use crate::stretches::{are_all_wide, count_of};
 use crate::view::View;
 use crate::writer::BoardWriter;
 use core::mem::replace_with;
-use ledger_bytes::{Digest, NoMemory};
+use ledger_bytes::{Digest, NoMemory, Sha};
 use left_right::writer::Writer;
+use merkle_batch::Stretch;
 use merkle_tree::Head;
 use std::alloc::Global;
 use std::sync::Wait;
@@ -22,7 +24,7 @@ fn stuck(
     alloc: Global,
     writer: Writer<Shown, Growing, View, Grows>,
     counter: Counter,
-    waiting: Vec<Digest>,
+    waiting: Vec<Stretch<Sha>>,
 ) -> BoardWriter
     requires counted { counter ≡ head_of writer.desk.shown.value.at.book }
     requires whole { writer.desk.shown.value.leaves ≡ all_leaves writer.desk.shown.value.at.log }
@@ -46,8 +48,31 @@ impl BoardWriter {
         ensures ok { OnOk result (waiting_of self.new ≡ waiting_of self.old ++ map (λ d. d.0) leaves.now) }
         ensures err { OnErr result (waiting_of self.new ≡ waiting_of self.old) }
     {
-        self.waiting.extend_from_slice(leaves)?;
+        let Some(end) = self.next_place() else {
+            return Err(NoMemory);
+        };
+        let stretch = Stretch::of(self.alloc, end, leaves)?;
+        self.add_stretch(stretch)
+    }
+
+    /// Adds the leaves of a stretch behind those that are there, for the next publish, as `add` does. Where the stretch begins
+    /// at the end of these, the publish hashes none of its nodes again.
+    pub fn add_stretch(&mut self, stretch: Stretch<Sha>) -> Result<(), NoMemory>
+        ensures shown { shown_by self.new ≡ shown_by self.old }
+        ensures ok { OnOk result (waiting_of self.new ≡ waiting_of self.old ++ stretch.leaves) }
+        ensures err { OnErr result (waiting_of self.new ≡ waiting_of self.old) }
+    {
+        self.waiting.push(stretch)?;
         Ok(())
+    }
+
+    // The place of the next leaf, behind those that wait here. There is no answer where it has more than 64 binary digits.
+    fn next_place(&self) -> Option<u64>
+        ensures { IfSome result (λ n. n ≡ (shown_by self.now).base.floor
+            + length (shown_by self.now).leaves + length (leaves_of self.now.waiting.items)) }
+    {
+        let size = self.writer.published().size();
+        size.checked_add(count_of(&self.waiting)?)
     }
 
     /// Shows provers what was added, as one batch, and answers the head of the whole. It waits for provers that still read the
@@ -85,17 +110,20 @@ impl BoardWriter {
             waiting,
             stuck: _,
         } = self;
-        are_wide(waiting.as_slice());
+        are_all_wide(waiting.as_slice());
         let mut at = writer.published().at().again();
         if at.count() >= 1 << 62 || !at.add(&counter, &waiting) {
             return (stuck(alloc, writer, counter, waiting), Err(NoMemory));
         }
         let growing = Growing {
-            leaves: waiting,
+            stretches: waiting,
             at,
         };
         if let Err(growing) = writer.append(growing) {
-            return (stuck(alloc, writer, counter, growing.leaves), Err(NoMemory));
+            return (
+                stuck(alloc, writer, counter, growing.stretches),
+                Err(NoMemory),
+            );
         }
         let (writer, done) = writer.publish_as::<Sees, R>(rt);
         let waiting = Vec::new(alloc);
