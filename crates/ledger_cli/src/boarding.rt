@@ -1,8 +1,6 @@
 //! How a board follows a ledger.
 
-ghost use Rattle.std.specs.Prelude.{◌≡◌, ◌⊎◌, ◌-◌, ◌≤◌, ◌<◌, [], List, ℕ, All, MatchBool, map, take, drop, length, IfOk};
-ghost use Rattle.sha2.specs.Sha256.{sha256};
-ghost use Rattle.merkle_batch.specs.Rows.{StandsFor};
+ghost use Rattle.std.specs.Prelude.{◌≡◌, ◌⊎◌, ◌-◌, ◌≤◌, ◌<◌, [], ℕ, All, MatchBool};
 ghost use Rattle.ledger_cli.specs.Boards.{IsAlone, IsBlockEnd, lasting};
 ghost use Rattle.ledger_book.specs.Books.{Serves};
 ghost use Rattle.ledger_model.specs.History.{History, size};
@@ -14,36 +12,12 @@ use crate::follower::Follower;
 use crate::posting::Posting;
 use journal_record::Kind;
 use ledger_book::Book;
-use ledger_bytes::{Digest, NoMemory, Sha};
+use ledger_bytes::Sha;
 use merkle_batch::Tree;
-use std::alloc::Global;
 use std::sync::Wait;
 
 /// How many leaves a board keeps at most, but for those with which it began.
 pub(crate) const BOARD_LIMIT: u64 = 1_048_576;
-
-// The digests of a tree's leaves from one on, up to another. There are none where the tree has forgotten one of them.
-fn leaves_between(
-    alloc: Global,
-    tree: &Tree<Sha>,
-    from: u64,
-    to: u64,
-) -> Result<Vec<Digest>, NoMemory>
-    requires order { from ≤ to }
-    requires within { to ≤ tree.now.size }
-    ensures digests { IfOk result (λ v. (ds : List (List ℕ)) → StandsFor sha256 tree.now ds
-        → map (λ d. d.0) v.items ≡ take (to - from) (drop from ds)) }
-    ensures count { IfOk result (λ v. length v.items ≡ to - from) }
-{
-    let mut leaves = Vec::new(alloc);
-    for n in from..to {
-        let Ok(leaf) = tree.leaf(n) else {
-            return Err(NoMemory);
-        };
-        leaves.push(leaf)?;
-    }
-    Ok(leaves)
-}
 
 // Whether a book's last journal stands in a block of its own: it is of a kind that shares none.
 fn ends_alone(book: &Book) -> bool
@@ -86,10 +60,10 @@ impl<'r, R: Wait> Posting<'r, R> {
             (IsPublished self.old self.new tree.now size) }
     {
         self.lacking = true;
-        let Ok(leaves) = leaves_between(self.alloc, tree, self.size, size) else {
+        let Ok(stretch) = tree.stretch(self.size, size) else {
             return;
         };
-        let Ok(()) = self.writer.add(leaves.as_slice()) else {
+        let Ok(()) = self.writer.add_stretch(stretch) else {
             return;
         };
         if let Ok(head) = self.writer.publish(self.rt) {
