@@ -1,6 +1,6 @@
--- What committing a block does to the two disks, and what giving up does what its journal hides or purges.
-use Rattle.std.specs.Prelude.{◌≡◌, ◌⊎◌, ℕ, ◌+◌, ◌≤◌, Bool, IsTrue, IsSomeAnd, List, [], ◌∷◌, ◌++◌, length, take}
-use Rattle.block_file.specs.File.{IsFileOf, tail_of, IsSettled, HasBlock}
+-- What committing the blocks of a group does to the two disks, and what giving up does what the last journal hides or purges.
+use Rattle.std.specs.Prelude.{◌≡◌, ◌⊎◌, ℕ, ◌+◌, ◌≤◌, Bool, IsTrue, IsSomeAnd, List, [], ◌++◌, length, take}
+use Rattle.block_file.specs.File.{IsFileOf, tail_of, IsSettled, IsGroupOf, HasGroup}
 use Rattle.block_file.specs.Head.{version_in}
 use Rattle.ledger_disk.specs.Disk.{State, MayLeave, settled_state}
 use Rattle.ledger_model.specs.History.{History}
@@ -19,24 +19,28 @@ open_bytes in_a disks = open_of in_a disks.a.bytes disks.b.bytes
 abbrev pub other_bytes : Bool → Pair → State
 other_bytes in_a disks = other_of in_a disks.a.bytes disks.b.bytes
 
--- the open file has the block behind the gate at this place, for good, and no disk failed
-pub record IsCommitted (tells : Bool) (in_a : Bool) (place : ℕ) (block : List ℕ) (before after : Pair) : Type 0 where
-  pub has : IsTrue tells → (front : List ℕ) (blocks : List (List ℕ)) → IsFileOf front blocks (open_bytes in_a before).seen
-      → tail_of front blocks ≡ place → HasBlock front blocks block (open_bytes in_a after)
+-- the open file has the blocks of the group with these bytes behind the gate at this place, for good, and no disk failed
+pub record IsCommitted (tells : Bool) (in_a : Bool) (place : ℕ) (bytes : List ℕ) (before after : Pair) : Type 0 where
+  pub has : IsTrue tells → (group : List (List ℕ)) → IsGroupOf group bytes → (front : List ℕ) (blocks : List (List ℕ))
+      → IsFileOf front blocks (open_bytes in_a before).seen → tail_of front blocks ≡ place → HasGroup front blocks group (open_bytes in_a after)
   pub ends : IsTrue tells → length (open_bytes in_a before).seen ≡ place + 1
-      → length (open_bytes in_a after).seen ≡ place + 1 + length block + 1
-  pub reads : ReadsAsLeft tells (place + 1 + length block) (open_of in_a after.a after.b)
+      → length (open_bytes in_a after).seen ≡ place + 1 + length bytes + 1
+  pub reads : ReadsAsLeft tells (place + 1 + length bytes) (open_of in_a after.a after.b)
   pub head : IsTrue tells → take 64 (open_bytes in_a after).seen ≡ take 64 (open_bytes in_a before).seen
   pub other : other_bytes in_a after ≡ other_bytes in_a before
   pub faults_a : after.a.faults ≡ before.a.faults
   pub faults_b : after.b.faults ≡ before.b.faults
 
--- the open file's disk failed in a commit: each image has the block whole or not at all
-pub record IsUncommitted (tells : Bool) (in_a : Bool) (place : ℕ) (block : List ℕ) (before after : Pair) : Type 0 where
-  pub may : IsTrue tells → IsSettled (open_bytes in_a before) → (front : List ℕ) (blocks : List (List ℕ))
-      → IsFileOf front blocks (open_bytes in_a before).seen → tail_of front blocks ≡ place
-      → (image : List ℕ) → MayLeave (open_bytes in_a after) image
-      → IsFileOf front blocks image ⊎ IsFileOf front (blocks ++ block ∷ []) image
+-- each image of a file has all blocks of the group with these bytes behind the gate at this place, or none
+abbrev pub AllOrNone : Bool → ℕ → List ℕ → State → State → Type 0
+AllOrNone tells place bytes old new =
+    IsTrue tells → (group : List (List ℕ)) → IsGroupOf group bytes → IsSettled old
+    → (front : List ℕ) (blocks : List (List ℕ)) → IsFileOf front blocks old.seen → tail_of front blocks ≡ place
+    → (image : List ℕ) → MayLeave new image → IsFileOf front blocks image ⊎ IsFileOf front (blocks ++ group) image
+
+-- the open file's disk failed in a commit
+pub record IsUncommitted (tells : Bool) (in_a : Bool) (place : ℕ) (bytes : List ℕ) (before after : Pair) : Type 0 where
+  pub may : AllOrNone tells place bytes (open_bytes in_a before) (open_bytes in_a after)
   pub other : other_bytes in_a after ≡ other_bytes in_a before
   pub failed : OneFailed before after
 

@@ -1,12 +1,14 @@
 -- The steps that a committer takes, one after the other.
 use Rattle.std.specs.Prelude.{◌≡◌, ◌≢◌, ℕ, ◌+◌, ◌-◌, ◌<◌, ◌≤◌, false, List, [], ◌∷◌, ◌++◌, length, All}
 use Rattle.ledger_bytes.specs.Digests.{digest}
-use Rattle.journal_record.specs.Blocks.{record_bytes, body_of, AreFrom}
+use Rattle.sha2.specs.Sha256.{sha256}
+use Rattle.tree_model.specs.Tree.{mth}
+use Rattle.journal_record.specs.Blocks.{record_bytes, body_of, block_bytes, AreFrom}
 use Rattle.journal_record.specs.Entry.{Entry}
 use Rattle.journal_record.specs.Header.{HasWidths}
 use Rattle.journal_record.specs.declared.approval.Approval.{Approval}
 use Rattle.ledger_model.specs.Dues.{IsWithin}
-use Rattle.ledger_model.specs.History.{History, blocks, root, point, block_of, end_of}
+use Rattle.ledger_model.specs.History.{History, blocks, leaves, root, point, block_of, end_of}
 use Rattle.ledger_model.specs.Anchors.{stamp_of}
 use Rattle.ledger_model.specs.Lawful.{AllGather}
 use Rattle.ledger_model.specs.Limits.{real_limits}
@@ -23,7 +25,7 @@ use Rattle.ledger_book.specs.Steps.{OpenGathers}
 use Rattle.script_lines.specs.BlockEnds.{BlockEnd, block_end}
 use Rattle.block_file.specs.Places.{body_from, place_at}
 use Rattle.ledger_open.specs.Places.{AreInOrder}
-use Rattle.batch_committer.specs.World.{CommitterState, Located, sealed_part}
+use Rattle.batch_committer.specs.World.{CommitterState, IsGathering, Located, sealed_part}
 
 -- the answer to a job that is judged against g, by what came of it, with the lane and number of its line
 abbrev pub due_by : History → Step → Job → Due
@@ -46,6 +48,10 @@ AreLastFrom first h = (jsn : ℕ) → first ≤ jsn → jsn < sealed_size h → 
 abbrev pub AllKept : Kept → List Due → Type 0
 AllKept book dues = All (λ due. IsWithin book.floor book.sealed due.answer) dues
 
+-- the bytes of the open block, as it stands in a file once it has ended
+abbrev pub last_bytes : History → List ℕ
+last_bytes h = block_bytes (mth sha256 (leaves h)) h.waiting
+
 -- the content and the approvals of a job that may place a journal; no other job has these
 abbrev pub HasParts : Job → List ℕ → List Approval → Type 0
 HasParts (Append member clue record_content content_digest request by who number) content given = (content ≡ record_content) × (given ≡ by ∷ [])
@@ -59,7 +65,8 @@ HasParts other content given = ⊥
 pub record IsGathered (old new : CommitterState) (journal : Entry) : Type 0 where
   pub widths : HasWidths journal.header
   pub body : new.body ≡ old.body ++ record_bytes journal
-  pub places : new.places ≡ old.places ++ place_at (body_from old.gate + length old.body) journal ∷ []
+  pub before : new.before ≡ old.before
+  pub places : new.places ≡ old.places ++ place_at (body_from old.next + length old.body) journal ∷ []
 
 -- what a committer keeps is what this history says, but for what is due, of which nothing is said
 pub record Gathers (k : CommitterState) (h : History) : Type 0 where
@@ -69,7 +76,8 @@ pub record Gathers (k : CommitterState) (h : History) : Type 0 where
   pub body : k.body ≡ body_of h.waiting
   pub next : AreFrom (sealed_size h) h.waiting
   pub gathered : length h.waiting ≢ 1 → AllGather h.waiting
-  pub located : Located k h
+  pub group : IsGathering k h
+  pub located : Located k h group.stored group.blocks
 
 -- a job was judged against g and its journal gathered: this is the answer to it, and but for what is due all is kept as the
 -- history after it says
@@ -77,9 +85,11 @@ pub record Judged (new : CommitterState) (g : History) (step : Step) (job : Job)
   pub answer_is : answer ≡ answer_for g step (outcome real_limits (stamp_of step) g job)
   pub gathers : Gathers new (with_job real_limits (stamp_of step) g job)
 
--- the open file is as before, and its tail gate stands where it stood
+-- the open file is as before, its tail gate stands where it stood, and no block ended
 pub record KeepsFile (old new : CommitterState) : Type 0 where
   pub gate : new.gate ≡ old.gate
+  pub ended : new.ended ≡ old.ended
+  pub next : new.next ≡ old.next
   pub in_a : new.in_a ≡ old.in_a
   pub edition : new.edition ≡ old.edition
   pub copy : new.copy ≡ old.copy
@@ -88,10 +98,12 @@ pub record KeepsFile (old new : CommitterState) : Type 0 where
 pub record KeepsRest (old new : CommitterState) : Type 0 where
   pub file : KeepsFile old new
   pub dues : new.dues ≡ old.dues
+  pub spelled : new.spelled ≡ old.spelled
+  pub lines : new.lines ≡ old.lines
 
--- at most one journal was placed by a call, and no block ended
+-- at most one journal was placed by a call, no block ended, and those that are gathered are the same
 abbrev pub HasGrown : CommitterState → CommitterState → Type 0
-HasGrown old new = (new.book.size ≤ old.book.size + 1) × (new.book.sealed ≡ old.book.sealed)
+HasGrown old new = (new.book.size ≤ old.book.size + 1) × (new.book.sealed ≡ old.book.sealed) × (new.before ≡ old.before)
 
 -- the journals that wait may share their block as before, where the job's own isn't a block of its own
 abbrev pub StaysGathered : CommitterState → CommitterState → Job → Type 0
@@ -99,4 +111,4 @@ StaysGathered old new job = closes_after job ≡ false → OpenGathers old.book 
 
 -- the contents still stand in their order in front of the place of the next gate
 abbrev pub StaysInOrder : CommitterState → CommitterState → Type 0
-StaysInOrder old new = AreInOrder 64 (body_from old.gate + length old.body) old.places → AreInOrder 64 (body_from new.gate + length new.body) new.places
+StaysInOrder old new = AreInOrder 64 (body_from old.next + length old.body) old.places → AreInOrder 64 (body_from new.next + length new.body) new.places

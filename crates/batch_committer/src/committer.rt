@@ -21,9 +21,10 @@ use time_peg::Notary;
 
 /// Takes jobs, one after the other: gathers their journals into blocks, commits these on the two disks of the ledger, and
 /// writes replies in the order of the jobs, a receipt once its block is on the disk for good. A block ends where it has
-/// 64 journals, before a job that asks for that, behind one whose journal is a block of its own, and by a flush. Each call
-/// is handed the same two disks, the same sink and the same notary. Once a call has ended the run nothing more is taken, and
-/// the disks aren't used again.
+/// 64 journals, before a job that asks for that, behind one whose journal is a block of its own, and by a flush. Full blocks
+/// are gathered, up to 64 of them or about 1,048,576 bytes, and committed together: before such a job, behind it, or by a call.
+/// Each call is handed the same two disks, the same sink and the same notary. Once a call has ended the run nothing more is
+/// taken, and the disks aren't used again.
 #[derive(Drop)]
 pub struct Committer {
     inner: Taking,
@@ -52,8 +53,8 @@ impl Committer {
         }
     }
 
-    /// The ledger: its book and the places of its journals, also of those that wait for their block's end, and its files,
-    /// which don't have these yet.
+    /// The ledger: its book and the places of its journals, also of those that wait for their block's end or are gathered for
+    /// the disk, and its files, which don't have these yet.
     pub fn opened(&self) -> &Opened
         ensures book { result.now.book ≡ self.now.kept.book }
         ensures places { result.now.places.list ≡ self.now.kept.places }
@@ -63,6 +64,13 @@ impl Committer {
         ensures copy { copy_of result.now.twin ≡ self.now.kept.copy }
     {
         self.inner.opened()
+    }
+
+    /// Whether no block is gathered for the disk, so that the files have all blocks that ended.
+    pub fn is_stored(&self) -> bool
+        ensures { (result ≡ true) ↔ (self.now.kept.ended ≡ 0) }
+    {
+        self.inner.is_stored()
     }
 
     /// The ledger's id.
@@ -119,7 +127,7 @@ impl Committer {
         result
     }
 
-    /// Ends the open block, and writes all that is due.
+    /// Ends the open block, commits all blocks that ended, and writes all that is due.
     pub fn flush<D: Disk, K: Sink>(
         &mut self,
         a: &mut D,
@@ -136,6 +144,7 @@ impl Committer {
             (pair (D.state a.new) (D.state b.new)) (K.state sink.new))) }
         ensures room { OnOk result (HasRoom self.new.kept) }
         ensures dues { OnOk result (self.new.kept.dues ≡ []) }
+        ensures none { OnOk result (self.new.kept.ended ≡ 0) }
         ensures err { IfErr result (λ end. self.old.ended ≡ false → EndsOnTheWay D.tells
             (world self.old.kept (pair (D.state a.old) (D.state b.old)) (K.state sink.old))
             close (λ h. []) end
@@ -149,9 +158,45 @@ impl Committer {
         if self.ended {
             Err(CommitErr::Closed)
         } else {
-            let result = self.inner.settle(a, b, sink);
+            let result = self.inner.flush(a, b, sink);
             self.ended = result.is_err();
             result
         }
+    }
+
+    /// Commits the blocks that ended, and writes what is due for them. No block ends: what waits for the open block's end waits
+    /// on.
+    pub fn settle<D: Disk, K: Sink>(
+        &mut self,
+        a: &mut D,
+        b: &mut D,
+        sink: &mut K,
+    ) -> Result<(), CommitErr>
+        requires { self.old.ended ≡ false → Fits D.tells (world self.old.kept
+            (pair (D.state a.old) (D.state b.old)) (K.state sink.old)) }
+        ensures ok { OnOk result (Goes D.tells
+            (world self.old.kept (pair (D.state a.old) (D.state b.old)) (K.state sink.old))
+            (λ h. h) (λ h. [])
+            (world self.new.kept (pair (D.state a.new) (D.state b.new)) (K.state sink.new))) }
+        ensures fits { OnOk result (Fits D.tells (world self.new.kept
+            (pair (D.state a.new) (D.state b.new)) (K.state sink.new))) }
+        ensures room { OnOk result (HasRoom self.old.kept → HasRoom self.new.kept) }
+        ensures none { OnOk result (self.new.kept.ended ≡ 0) }
+        ensures err { IfErr result (λ end. self.old.ended ≡ false → EndsOnTheWay D.tells
+            (world self.old.kept (pair (D.state a.old) (D.state b.old)) (K.state sink.old))
+            (λ h. h) (λ h. []) end
+            (world self.new.kept (pair (D.state a.new) (D.state b.new)) (K.state sink.new))) }
+        ensures closed { (result ≡ Err CommitErr.Closed) ↔ (self.old.ended ≡ true) }
+        ensures ended { self.new.ended ≡ is_err result }
+        ensures same { self.old.ended ≡ true → self.new ≡ self.old }
+        ensures unused { self.old.ended ≡ true → (a.new ≡ a.old) × (b.new ≡ b.old)
+            × (sink.new ≡ sink.old) }
+    {
+        if self.ended {
+            return Err(CommitErr::Closed);
+        }
+        let result = self.inner.settle(a, b, sink);
+        self.ended = result.is_err();
+        result
     }
 }

@@ -12,8 +12,8 @@ use ledger_model::{Answer, Due};
 use script_lines::{BlockEnd, put_receipt, put_reply};
 use std::alloc::Global;
 
-/// The lines that are due, where the last block of the ledger has ended and has the journals from `first` on, in a buffer
-/// that is used again. A receipt of an earlier journal tells the end of that journal's own block.
+/// Appends the lines that are due, where the last block of the ledger has ended and has the journals from `first` on. A
+/// receipt of an earlier journal tells the end of that journal's own block.
 pub(crate) fn spell(
     alloc: Global,
     text: &mut Vec<u8>,
@@ -22,10 +22,10 @@ pub(crate) fn spell(
     dues: &[Due],
 ) -> Result<(), NoMemory>
     ensures { OnOk result ((h : History) → Serves book.now h → AreLastFrom first h
-        → AllKept book.now dues.now → text.new.items ≡ due_lines h dues.now) }
+        → AllKept book.now dues.now
+        → text.new.items ≡ text.old.items ++ due_lines h dues.now) }
 {
     let mut last = end_of_last(alloc, book);
-    text.clear();
     for due in dues {
         put_due(alloc, text, book, first, due, &mut last)?;
     }

@@ -17,7 +17,7 @@ ghost use Rattle.ledger_open.specs.Opening.{Known};
 ghost use Rattle.ledger_open.specs.Reopened.{IsReopened};
 ghost use Rattle.ledger_open.specs.Standing.{PairFor};
 ghost use Rattle.batch_committer.specs.Opened.{kept_from, IsOpened, IsQuietFor};
-ghost use Rattle.batch_committer.specs.World.{World, Pair, world, Fits, HasRoom, Holds};
+ghost use Rattle.batch_committer.specs.World.{CommitterState, World, Pair, world, Fits, HasRoom, Holds, stored_part};
 
 /// What is known of a ledger that was opened is all that the first call asks for. Under the limits of each ledger each
 /// history that the pair stood for is the one that the committer and its disks have.
@@ -53,10 +53,13 @@ pub fn a_new_ledger_is_held()
         → Fits tells (world (kept_from k true (edition_from 2 1)) disks sink) }
 {}
 
-/// Where no journal waits, nothing is pending: each pair of images stands for the history that is held.
+/// Nothing is pending, and each pair of images stands for what is stored of the history that is held. Where no journal waits and
+/// no block is gathered, that is all of it.
 pub fn a_held_ledger_is_clean()
-    ensures { (tells : Bool) (w : World) (h : History) → Holds tells w h → h.waiting ≡ []
-        → IsQuietFor w.disks h }
+    ensures clean { (tells : Bool) (w : World) (h : History) → Holds tells w h
+        → IsQuietFor w.disks (stored_part w.kept h) }
+    ensures whole { (k : CommitterState) (h : History) → k.ended ≡ 0 → h.waiting ≡ []
+        → stored_part k h ≡ h }
 {}
 
 /// The history that is held is lawful, where a journal more has room.

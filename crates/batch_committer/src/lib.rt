@@ -5,6 +5,7 @@
 mod commit;
 mod committer;
 mod dues;
+mod ending;
 mod failure;
 mod getting;
 mod giving;

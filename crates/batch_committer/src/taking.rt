@@ -1,13 +1,18 @@
 //! How the committer takes a job, from its judgement to the end of its block and the replies that are due.
 
-ghost use Rattle.std.specs.Prelude.{◌≡◌, ◌≤◌, ◌<◌, [], false, length, All, None, Bool, true, List, ℕ, IfOk, IfErr, OnOk, OnErr};
+ghost use Rattle.std.specs.Prelude.{◌≡◌, ◌↔◌, ◌+◌, ◌-◌, ◌^◌, ◌≤◌, ◌<◌, [], ◌++◌, false, length, take, drop, All, None, Bool, true, List, ℕ, IfOk, IfErr, OnOk, OnErr};
+ghost use Rattle.std.specs.Io.KnownBytes.{Appends};
 ghost use Rattle.journal_record.specs.Approval.{who_of};
 ghost use Rattle.journal_record.specs.Entry.{Entry};
 ghost use Rattle.journal_record.specs.Header.{HasWidths, spelling};
 ghost use Rattle.journal_record.specs.declared.approval.Approval.{Approval as AnyApproval};
 ghost use Rattle.ledger_bytes.specs.declared.limits.TheConstants.{APPROVAL_LIMIT, CONTENT_LIMIT, PROOF_LIMIT};
+ghost use Rattle.block_file.specs.File.{IsGroupOf};
 ghost use Rattle.block_file.specs.FileView.{gate_of};
+ghost use Rattle.block_file.specs.Writing.{ended_blocks};
 ghost use Rattle.ledger_io.specs.Outside.{SinkState};
+ghost use Rattle.ledger_io.specs.Writing.{WritesFirst, MeetsAtMostOne};
+ghost use Rattle.ledger_model.specs.Dues.{due_lines};
 ghost use Rattle.ledger_model.specs.Fitting.{fits_job};
 ghost use Rattle.ledger_model.specs.Getting.{get_reply};
 ghost use Rattle.ledger_model.specs.History.{History, id, close};
@@ -16,15 +21,18 @@ ghost use Rattle.ledger_model.specs.declared.job.Job.TheVariants as jobs;
 ghost use Rattle.ledger_book.specs.Books.{Serves};
 ghost use Rattle.ledger_book.specs.Steps.{OpenGathers, HasOperatorRoom};
 ghost use Rattle.ledger_open.specs.Heads.{edition_in};
+ghost use Rattle.twin_file.specs.Twin.{open_of};
 ghost use Rattle.twin_file.specs.Which.{in_a_of, file_of, copy_of};
+ghost use Rattle.batch_committer.specs.Committed.{IsCommitted, IsUncommitted};
 ghost use Rattle.batch_committer.specs.Read.{WereRead, NoneFailed, ReadingEnds};
 ghost use Rattle.batch_committer.specs.Attending.{step_in, FailsAtMostOnce, TakesJob, EndsTaking, TakesIn, EndsIn, JudgedBy, EndsAsking};
 ghost use Rattle.batch_committer.specs.Steps.{HasParts, IsGathered, KeepsFile, KeepsRest, HasGrown, StaysGathered, StaysInOrder};
-ghost use Rattle.batch_committer.specs.World.{Pair, pair, world, first_kept, Fits, HasRoom, Keeps, Holds, Goes, EndsOnTheWay};
+ghost use Rattle.batch_committer.specs.World.{Pair, pair, world, first_kept, ReadsAsLeft, Fits, HasRoom, Keeps, Holds, Goes, EndsOnTheWay};
 
 use crate::CommitErr;
 use crate::commit::commit;
 use crate::dues::spell;
+use crate::ending::{GROUP_BLOCKS, GROUP_BYTES, LAST_GATE, end_open};
 use crate::getting::get;
 use crate::giving::give_up;
 use crate::proving::{extension_of, proof_of};
@@ -50,11 +58,19 @@ pub(crate) struct Taking {
     alloc: Global,
     /// The ledger with the journals that wait, and where they will stand.
     opened: Opened,
+    /// The blocks that ended and are gathered for the disk, and behind them the open block.
     block: BlockWriter,
-    /// What is due, and waits for the open block's end.
+    /// How many blocks are gathered.
+    ended: u32,
+    /// Where the open block's gate will stand.
+    next: u64,
+    /// All that is due and isn't written.
     dues: Vec<Due>,
-    /// The lines that are written, in a buffer that is used again.
+    /// How many of the first of these are spelled. The others wait for the open block's end.
+    spelled: usize,
+    /// The lines that are spelled, in a buffer that is used again.
     text: Vec<u8>,
+    ghost bounded: { next ≤ 2 ^ 62 },
 }
 
 impl Model for Taking {
@@ -71,9 +87,14 @@ impl Model for Taking {
       in_a = in_a_of t.opened.twin;
       edition = edition_in t.opened.twin;
       copy = copy_of t.opened.twin;
+      ended = t.ended;
+      before = t.block.before;
+      next = t.next;
       body = t.block.body;
       places = t.opened.places.list;
       dues = t.dues.items;
+      spelled = t.spelled;
+      lines = t.text.items;
     } };
 }
 
@@ -83,16 +104,23 @@ impl Taking {
             (gate_of (file_of opened.twin)) (in_a_of opened.twin)
             (edition_in opened.twin) (copy_of opened.twin) }
     {
+        let mut block = BlockWriter::new(alloc);
+        block.begin_group();
+        let mut opened = opened;
+        let next = opened.twin.file().tail();
         Taking {
             alloc,
             opened,
-            block: BlockWriter::new(alloc),
+            block,
+            ended: 0,
+            next,
             dues: Vec::new(alloc),
+            spelled: 0,
             text: Vec::new(alloc),
         }
     }
 
-    /// The ledger, with the journals that wait.
+    /// The ledger, with the blocks that are gathered and the journals that wait.
     pub(crate) fn opened(&self) -> &Opened
         ensures book { result.now.book ≡ self.now.book }
         ensures places { result.now.places.list ≡ self.now.places }
@@ -102,6 +130,13 @@ impl Taking {
         ensures copy { copy_of result.now.twin ≡ self.now.copy }
     {
         &self.opened
+    }
+
+    /// Whether no block is gathered for the disk.
+    pub(crate) fn is_stored(&self) -> bool
+        ensures { (result ≡ true) ↔ (self.now.ended ≡ 0) }
+    {
+        self.ended == 0
     }
 
     /// The ledger's id.
@@ -144,10 +179,10 @@ impl Taking {
         self.end_after(a, b, sink, &item.job)
     }
 
-    /// Writes all that is due. Where a journal waits the open block ends before that: it is committed, and what its journal
-    /// hides or purges is given up. All memory is taken before the first call of a disk, and what a purge took is let go of
+    /// Ends the open block, commits all blocks that ended, and writes all that is due. What the last journal hides or purges
+    /// is given up before that. All memory is taken before the first call of a disk, and what a purge took is let go of
     /// behind the receipt.
-    pub(crate) fn settle<D: Disk, K: Sink>(
+    pub(crate) fn flush<D: Disk, K: Sink>(
         &mut self,
         a: &mut D,
         b: &mut D,
@@ -162,71 +197,151 @@ impl Taking {
         ensures fits { OnOk result (Fits D.tells (world self.new
             (pair (D.state a.new) (D.state b.new)) (K.state sink.new))) }
         ensures empty { OnOk result ((self.new.book.size ≡ self.new.book.sealed)
-            × (self.new.dues ≡ [])) }
+            × (self.new.dues ≡ []) × (self.new.ended ≡ 0)) }
         ensures err { IfErr result (λ end. EndsOnTheWay D.tells
             (world self.old (pair (D.state a.old) (D.state b.old)) (K.state sink.old))
             close (λ h. []) end
             (world self.new (pair (D.state a.new) (D.state b.new)) (K.state sink.new))) }
     {
-        let count = self.opened.book.unsealed() as u32;
-        if count == 0 {
-            return self.write_dues(sink);
+        if self.opened.book.unsealed() == 0 {
+            return self.settle(a, b, sink);
         }
-        let first = self.opened.book.sealed_size();
-        // The block ends in the book before its receipts are spelled, since they tell the root behind it.
-        self.opened.book.seal();
-        spell(
+        let (_, due) = self.dues.as_slice().split_at(self.spelled);
+        end_open(
             self.alloc,
+            &mut self.opened.book,
+            &mut self.block,
             &mut self.text,
-            &self.opened.book,
-            first,
-            self.dues.as_slice(),
+            due,
         )?;
-        self.block.finish(count, &self.opened.book.head().root)?;
         let purge = prepare(self.alloc, &self.opened.book, &self.opened.places)?;
         // All memory is taken: from here on only a disk or the sink fails, so no block that stands is left without its
         // receipts for want of memory. They come behind both syncs, and behind what their journal gives up.
-        commit(&mut self.opened.twin, a, b, self.block.as_slice())?;
+        commit(&mut self.opened.twin, a, b, self.block.group())?;
         let gone = give_up(&mut self.opened, a, b, purge)?;
         let written = write_all(sink, self.text.as_slice());
         // Receipts don't wait until memory is given back. The files have let go of it already, so the book does also where
         // the receipts couldn't be written.
         let_go(&mut self.opened, gone);
         written?;
-        self.block.clear();
-        self.dues.clear();
+        self.begin_group();
         Ok(())
     }
 
-    // Writes all that is due, where no journal waits for its block's end.
-    fn write_dues<K: Sink>(&mut self, sink: &mut K) -> Result<(), CommitErr>
-        requires { (h : History) → Serves self.old.book h → h.waiting ≡ [] }
-        ensures ok { OnOk result ((tells : Bool) (disks : Pair) → Goes tells
-            (world self.old disks (K.state sink.old))
-            close (λ h. [])
-            (world self.new disks (K.state sink.new))) }
-        ensures same { OnOk result ((self.new.book ≡ self.old.book)
-            × KeepsFile self.old self.new × (self.new.dues ≡ [])
-            × (self.new.body ≡ self.old.body) × (self.new.places ≡ self.old.places)) }
-        ensures err { IfErr result (λ end. (tells : Bool) (disks : Pair) → EndsOnTheWay tells
-            (world self.old disks (K.state sink.old))
-            close (λ h. []) end
-            (world self.new disks (K.state sink.new))) }
+    // Begins the first block of a group behind the tail gate, where nothing is due.
+    fn begin_group(&mut self)
+        ensures { self.new ≡ first_kept self.old.book self.old.places self.old.gate
+            self.old.in_a self.old.edition self.old.copy }
+    {
+        self.block.begin_group();
+        self.ended = 0;
+        self.next = self.opened.twin.file().tail();
+        self.dues.clear();
+        self.spelled = 0;
+        self.text.clear();
+    }
+
+    /// Commits the blocks that ended, and writes what is due for them; where no journal waits, all that is due. No block
+    /// ends, and all memory is taken before the first call of a disk.
+    pub(crate) fn settle<D: Disk, K: Sink>(
+        &mut self,
+        a: &mut D,
+        b: &mut D,
+        sink: &mut K,
+    ) -> Result<(), CommitErr>
+        requires fits { Fits D.tells (world self.old (pair (D.state a.old) (D.state b.old))
+            (K.state sink.old)) }
+        ensures ok { OnOk result (Goes D.tells
+            (world self.old (pair (D.state a.old) (D.state b.old)) (K.state sink.old))
+            (λ h. h) (λ h. [])
+            (world self.new (pair (D.state a.new) (D.state b.new)) (K.state sink.new))) }
+        ensures fits { OnOk result (Fits D.tells (world self.new
+            (pair (D.state a.new) (D.state b.new)) (K.state sink.new))) }
+        ensures same { OnOk result ((self.new.book ≡ self.old.book) × (self.new.ended ≡ 0)) }
+        ensures empty { OnOk result (self.old.book.size ≡ self.old.book.sealed
+            → self.new.dues ≡ []) }
+        ensures err { IfErr result (λ end. EndsOnTheWay D.tells
+            (world self.old (pair (D.state a.old) (D.state b.old)) (K.state sink.old))
+            (λ h. h) (λ h. []) end
+            (world self.new (pair (D.state a.new) (D.state b.new)) (K.state sink.new))) }
+    {
+        if self.opened.book.unsealed() == 0 {
+            self.spell_dues()?;
+        }
+        if self.ended > 0 {
+            self.commit_ended(a, b)?;
+        }
+        self.write_lines(sink)
+    }
+
+    // Spells all that is due, where no journal waits for its block's end.
+    fn spell_dues(&mut self) -> Result<(), NoMemory>
+        requires few { self.old.spelled ≤ length self.old.dues }
+        requires none { (h : History) → Serves self.old.book h → h.waiting ≡ [] }
+        ensures same { OnOk result (self.new ≡ record self.old {
+          spelled = length self.old.dues;
+          lines = self.new.lines;
+        }) }
+        ensures lines { OnOk result ((h : History) → Keeps self.old h → self.new.lines
+            ≡ self.old.lines ++ due_lines h (drop self.old.spelled self.old.dues)) }
     {
         let first = self.opened.book.sealed_size();
-        spell(
-            self.alloc,
-            &mut self.text,
-            &self.opened.book,
-            first,
-            self.dues.as_slice(),
-        )?;
-        write_all(sink, self.text.as_slice())?;
-        self.dues.clear();
+        let (_, due) = self.dues.as_slice().split_at(self.spelled);
+        spell(self.alloc, &mut self.text, &self.opened.book, first, due)?;
+        self.spelled = self.dues.len();
         Ok(())
     }
 
-    // Ends the open block before a job that asks for that.
+    // Commits the blocks that ended. None of them hides or purges anything.
+    fn commit_ended<D: Disk>(&mut self, a: &mut D, b: &mut D) -> Result<(), CommitErr>
+        requires reads { ReadsAsLeft D.tells self.old.gate (open_of self.old.in_a
+            (D.state a.old) (D.state b.old)) }
+        requires some { 1 ≤ length self.old.before }
+        ensures ok { OnOk result (IsCommitted D.tells self.old.in_a self.old.gate
+            (take (length self.old.before - 1) self.old.before)
+            (pair (D.state a.old) (D.state b.old)) (pair (D.state a.new) (D.state b.new))) }
+        ensures same { OnOk result (self.new ≡ record self.old {
+          gate = self.old.gate + length self.old.before;
+          ended = 0;
+          before = [];
+        }) }
+        ensures group { (ended : List (List ℕ)) → self.old.before ≡ ended_blocks ended
+            → 1 ≤ length ended → IsGroupOf ended (take (length self.old.before - 1) self.old.before) }
+        ensures err { OnErr result (IsUncommitted D.tells self.old.in_a self.old.gate
+            (take (length self.old.before - 1) self.old.before)
+            (pair (D.state a.old) (D.state b.old)) (pair (D.state a.new) (D.state b.new))) }
+        ensures only { IfErr result (λ end. end ≡ CommitErr.DiskFault) }
+    {
+        commit(&mut self.opened.twin, a, b, self.block.ended())?;
+        self.block.drop_ended();
+        self.ended = 0;
+        Ok(())
+    }
+
+    // Writes the lines that are spelled.
+    fn write_lines<K: Sink>(&mut self, sink: &mut K) -> Result<(), CommitErr>
+        requires few { self.old.spelled ≤ length self.old.dues }
+        ensures ok { OnOk result (Appends (K.state sink.old).held (K.state sink.new).held self.old.lines) }
+        ensures taken { IfErr result (λ end. WritesFirst (K.state sink.old).held
+            (K.state sink.new).held self.old.lines) }
+        ensures once { MeetsAtMostOne result (K.state sink.old) (K.state sink.new) }
+        ensures same { OnOk result (self.new ≡ record self.old {
+          dues = drop self.old.spelled self.old.dues;
+          spelled = 0;
+          lines = [];
+        }) }
+        ensures only { IfErr result (λ end. end ≡ CommitErr.WriteFault) }
+    {
+        write_all(sink, self.text.as_slice())?;
+        let left = self.dues.len() - self.spelled;
+        self.dues.rotate_left(self.spelled);
+        self.dues.truncate(left);
+        self.spelled = 0;
+        self.text.clear();
+        Ok(())
+    }
+
+    // Ends the open block before a job that asks for that, and commits all that ended.
     fn end_before<D: Disk, K: Sink>(
         &mut self,
         a: &mut D,
@@ -245,21 +360,21 @@ impl Taking {
             (pair (D.state a.new) (D.state b.new)) (K.state sink.new))) }
         ensures room { OnOk result (HasRoom self.new) }
         ensures settled { OnOk result (closes_before job.now ≡ true
-            → self.new.book.size ≡ self.new.book.sealed) }
+            → (self.new.book.size ≡ self.new.book.sealed) × (self.new.ended ≡ 0)) }
         ensures err { IfErr result (λ end. EndsOnTheWay D.tells
             (world self.old (pair (D.state a.old) (D.state b.old)) (K.state sink.old))
             (λ h. judged_at h job.now) (λ h. []) end
             (world self.new (pair (D.state a.new) (D.state b.new)) (K.state sink.new))) }
     {
         if job.closes_before() {
-            self.settle(a, b, sink)
+            self.flush(a, b, sink)
         } else {
             Ok(())
         }
     }
 
-    // Ends the open block behind a job whose journal is a block of its own, and where it is full. Writes all that is due
-    // where no journal waits.
+    // Ends the open block behind a job whose journal is a block of its own, and where it is full: that is gathered for the disk,
+    // unless it fills its group. Writes all that is due where no journal waits and no block is gathered.
     fn end_after<D: Disk, K: Sink>(
         &mut self,
         a: &mut D,
@@ -283,14 +398,59 @@ impl Taking {
             (world self.new (pair (D.state a.new) (D.state b.new)) (K.state sink.new))) }
     {
         if job.closes_after() {
-            return self.settle(a, b, sink);
+            return self.flush(a, b, sink);
         }
         let waiting = self.opened.book.unsealed();
-        if waiting == 0 || waiting >= BLOCK_LIMIT {
+        if waiting == 0 && self.ended == 0 {
             self.settle(a, b, sink)
-        } else {
+        } else if waiting < BLOCK_LIMIT {
             Ok(())
+        } else if self.fills_group() {
+            self.flush(a, b, sink)
+        } else {
+            Ok(self.end_block()?)
         }
+    }
+
+    // Whether no block more is gathered behind the open one: the group has as many blocks then as it may have, or as many bytes.
+    fn fills_group(&self) -> bool
+        requires { self.now.ended < GROUP_BLOCKS }
+        ensures room { result ≡ false → self.now.ended + 1 < GROUP_BLOCKS }
+        ensures place { result ≡ false → self.now.next + 45 + length self.now.body ≤ 2 ^ 62 }
+    {
+        let bytes = self.block.group().len();
+        self.ended + 1 >= GROUP_BLOCKS
+            || bytes >= GROUP_BYTES
+            || self.next + 45 + bytes as u64 > LAST_GATE
+    }
+
+    // Ends the open block, and gathers it for the disk. What waited for its end is spelled.
+    fn end_block(&mut self) -> Result<(), NoMemory>
+        requires few { self.old.book.size ≤ self.old.book.sealed + BLOCK_LIMIT }
+        requires some { self.old.book.sealed < self.old.book.size }
+        requires room { self.old.ended + 1 < GROUP_BLOCKS }
+        requires spelled { self.old.spelled ≤ length self.old.dues }
+        requires place { self.old.next + 45 + length self.old.body ≤ 2 ^ 62 }
+        requires gathers { OpenGathers self.old.book }
+        ensures ok { OnOk result ((tells : Bool) (disks : Pair) (sink : SinkState) → Goes tells
+            (world self.old disks sink) close (λ h. []) (world self.new disks sink)) }
+        ensures fits { OnOk result ((tells : Bool) (disks : Pair) (sink : SinkState)
+            → Fits tells (world self.old disks sink) → Fits tells (world self.new disks sink)) }
+        ensures empty { OnOk result (self.new.book.size ≡ self.new.book.sealed) }
+    {
+        let (_, due) = self.dues.as_slice().split_at(self.spelled);
+        end_open(
+            self.alloc,
+            &mut self.opened.book,
+            &mut self.block,
+            &mut self.text,
+            due,
+        )?;
+        self.next += self.block.as_slice().len() as u64 + 1;
+        self.block.begin_next()?;
+        self.ended += 1;
+        self.spelled = self.dues.len();
+        Ok(())
     }
 
     // Judges a job and gathers what it places, and keeps what is due for it with the rest.
@@ -303,7 +463,7 @@ impl Taking {
     ) -> Result<(), CommitErr>
         requires room { HasRoom self.old }
         requires settled { closes_before item.now.job ≡ true
-            → self.old.book.size ≡ self.old.book.sealed }
+            → (self.old.book.size ≡ self.old.book.sealed) × (self.old.ended ≡ 0) }
         ensures ok { OnOk result ((failed : Bool) × ((line : List ℕ) (sink : SinkState)
             → TakesIn D.tells
             (world self.old (pair (D.state a.old) (D.state b.old)) sink)
@@ -347,7 +507,7 @@ impl Taking {
         requires fits { fits_job job.now ≡ true }
         requires room { HasRoom self.old }
         requires settled { closes_before job.now ≡ true
-            → self.old.book.size ≡ self.old.book.sealed }
+            → (self.old.book.size ≡ self.old.book.sealed) × (self.old.ended ≡ 0) }
         ensures judged { IfOk result (λ answer. (failed : Bool) × ((h : History) (lane index : ℕ)
             (line : List ℕ) (sink : SinkState)
             → Holds D.tells (world self.old (pair (D.state a.old) (D.state b.old)) sink) h
@@ -439,11 +599,11 @@ impl Taking {
         })
     }
 
-    // What is told of journal `n`, where no journal waits. It is read from the open file.
+    // What is told of journal `n`, where no journal waits and no block is gathered. It is read from the open file.
     fn get<D: Disk>(&self, a: &mut D, b: &mut D, n: u64) -> Result<Reply, CommitErr>
         ensures told { IfOk result (λ reply. (h : History) (sink : SinkState) → Holds D.tells
             (world self.now (pair (D.state a.old) (D.state b.old)) sink) h
-            → h.waiting ≡ [] → reply ≡ get_reply h n) }
+            → h.waiting ≡ [] → self.now.ended ≡ 0 → reply ≡ get_reply h n) }
         ensures read { WereRead D.tells
             (pair (D.state a.old) (D.state b.old)) (pair (D.state a.new) (D.state b.new)) }
         ensures no_fault { OnOk result (NoneFailed
@@ -507,9 +667,8 @@ impl Taking {
         ensures book { self.new.book ≡ self.old.book }
         ensures rest { KeepsRest self.old self.new }
     {
-        let gate = self.opened.twin.file().tail();
         self.opened.places.reserve(1)?;
-        let place = self.block.put(gate, header, content, given)?;
+        let place = self.block.put(self.next, header, content, given)?;
         self.opened.places.push(place);
         Ok(())
     }
