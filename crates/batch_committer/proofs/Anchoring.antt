@@ -146,7 +146,7 @@ keeps_book k book h is p = subst (λ b. Keeps (record k { book = b }) h) (sym is
 pub told_judged : (old : CommitterState) (book : books.Kept) (n m : NotaryState) (h : History) (step : Step) (job asked : Job) (o : Outcome) (q known : Query) (said : AnyReply) → Keeps old h → Applies old.book.limits None h job o book → (PlacesNothing o → book ≡ old.book) → o ≡ came.Reading q → q ≡ known → job ≡ asked
     → stamp_of step ≡ None → (said ≡ told_reply h step known) × Attended n m h step asked → JudgedBy (record old { book = book }) n m h step job (Reply said)
 told_judged old book n m h step job asked o q known said p applies same is at which none told = record {
-  judged = judged_same_kept old (record old { book = book }) h step job o (Reply said) p applies (subst PlacesNothing (sym is) tt) same refl refl refl
+  judged = judged_same_kept old (record old { book = book }) h step job o (Reply said) p applies (subst PlacesNothing (sym is) tt) same (record { body = refl; places = refl; gate = refl; next = refl; ended = refl; before = refl })
       (ap Reply told.0 ∙ ap (λ x. answer_for h step (came.Reading x)) (sym at) ∙ sym (ap (answer_for h step) is)) none;
   attended = subst (λ (j : Job). Attended n m h step j) (sym which) told.1;
 }

@@ -34,7 +34,7 @@ use Rattle.ledger_open.proofs.GrowLaws.{erased_stands, grown, begins}
 use Rattle.ledger_open.proofs.KeptLaws.{header_map_same, all_kept}
 use Rattle.ledger_open.proofs.PlaceLaws.{after_kept, tail_place}
 use Rattle.ledger_open.proofs.SizeLaws.{mth_size, block_size, body_size, readable}
-use Rattle.batch_committer.specs.Committed.{IsCommitted, IsUncommitted, open_bytes}
+use Rattle.batch_committer.specs.Steps.{last_bytes}
 use Rattle.batch_committer.specs.declared.failure.CommitErr.{CommitErr}
 use Rattle.batch_committer.specs.declared.failure.CommitErr.TheVariants.{DiskFault, WriteFault, NoMemory, Closed}
 use Rattle.batch_committer.specs.World.{CommitterState, World, Pair, Keeps, IsCleanFor, Holds, IsErasedPair, IsLeftClean, sealed_part}
@@ -121,41 +121,6 @@ stands_by image new h x stands = record {
   wide = x.wide;
 }
 
--- the bytes of a block, as the file has them behind its blocks
-abbrev pub next_bytes : History → List ℕ
-next_bytes h = block_bytes (mth sha256 (leaves h)) h.waiting
-
-bytes_behind : (image : List ℕ) (h : History) (x : IsErased image (sealed_part h)) → next_bytes h ≡ block_bytes ((floor_behind (sealed_part h) x.parts.gone).root (leaves_of (journals_of x.keeps.blocks) ++ leaves_of h.waiting)) h.waiting
-bytes_behind image h x =
-    let g = sealed_part h in
-    let all : leaves_of (journals_of h.closed) ≡ leaves_of (journals_of x.parts.gone) ++ leaves_of (journals_of x.keeps.blocks) =
-    ap (λ (bs : List (List Entry)). leaves_of (journals_of bs)) x.parts.are ∙ ap leaves_of (flat_map-append (λ (l : List Entry). l) x.parts.gone x.parts.kept)
-    ∙ map-append (λ (e : Entry). spelling e.header) (journals_of x.parts.gone) (journals_of x.parts.kept)
-    ∙ ap (λ (l : List (List ℕ)). leaves_of (journals_of x.parts.gone) ++ l)
-    (header_map_same (is_hidden g) (is_hidden g) spelling (journals_of x.parts.kept) (journals_of x.keeps.blocks) (all_kept (is_hidden g) (is_hidden g) x.parts.kept x.keeps.blocks x.keeps.same)) in
-    ap (λ (l : List (List ℕ)). block_bytes (mth sha256 l) h.waiting)
-    (leaves_parts h ∙ ap (λ (l : List (List ℕ)). l ++ leaves_of h.waiting) all
-    ∙ append_assoc (leaves_of (journals_of x.parts.gone)) (leaves_of (journals_of x.keeps.blocks)) (leaves_of h.waiting))
-    ∙ ap (λ (r : List ℕ). block_bytes r h.waiting) (sym (floor_root g x.parts.gone x.parts.kept x.parts.are (leaves_of (journals_of x.keeps.blocks) ++ leaves_of h.waiting)))
-
--- the image stands for the history with the open block ended, and begins where it began
-pub block_stands : (k : CommitterState) (h : History) → Keeps k h → 1 ≤ length h.waiting → length h.waiting ≤ BLOCK_LIMIT → (image new : List ℕ) (x : IsErased image (sealed_part h))
-    → IsFileOf x.keeps.file.front (written_blocks (floor_behind (sealed_part h) x.parts.gone).root [] x.keeps.blocks ++ next_bytes h ∷ []) new
-    → StandsBy (point (sealed_part h)) (hidden_before (sealed_part (close h))) new (sealed_part (close h))
-block_stands k h p some most image new x stands =
-    let n = next_block_is k h p some most in
-    subst (λ (g : History). StandsBy (point (sealed_part h)) (hidden_before g) new g) (sealed_close h some)
-    (grown image new (sealed_part h) h.waiting x n.entries n.shape n.next
-    (subst (λ (b : List ℕ). IsFileOf x.keeps.file.front (written_blocks (floor_behind (sealed_part h) x.parts.gone).root [] x.keeps.blocks ++ b ∷ []) new) (bytes_behind image h x) stands))
-
--- .. where that is the point, or the point before a purge
-pub block_begins : (k : CommitterState) (h : History) → Keeps k h → 1 ≤ length h.waiting → length h.waiting ≤ BLOCK_LIMIT → (image : List ℕ) → IsErased image (sealed_part h)
-    → (point (sealed_part h) ≡ point (sealed_part (close h))) ⊎ (point (sealed_part h) ≡ point_before (sealed_part (close h)))
-block_begins k h p some most image x =
-    let n = next_block_is k h p some most in
-    subst (λ (g : History). (point (sealed_part h) ≡ point g) ⊎ (point (sealed_part h) ≡ point_before g)) (sealed_close h some)
-    (begins image image (sealed_part h) h.waiting x n.entries n.shape n.next)
-
 pub stands_from : (floor : ℕ) (image : List ℕ) (h : History) → (floor ≡ point h) ⊎ (floor ≡ point_before h) → StandsBy floor (hidden_before h) image h → StandsFor image h
 stands_from floor image h begins x = record { floor = floor; begins = begins; file = x }
 
@@ -229,47 +194,6 @@ left_clean WriteFault h kept done a b c = c
 left_clean NoMemory h kept done a b c = c
 left_clean Closed h kept done a b c = c
 
--- ---- a commit
-
--- where the tail gate stands of what is kept
-pub tails_kept : (k : CommitterState) (h : History) → Keeps k h → All IsBlock h.closed → TailsAt k.gate (sealed_part h)
-tails_kept k h p all = tails_at (sealed_part h) k.gate k.book.floor p.located.parts all p.floor p.located.tail
-
-module _ (tells : Bool) (w : World) (h : History) (p : Holds tells w h) (some : 1 ≤ length h.waiting) (most : length h.waiting ≤ BLOCK_LIMIT) (disks : Pair) where
-  abbrev from : Floor
-  from = floor_behind (sealed_part h) p.disks.erased.parts.gone
-
-  tail : tail_of p.disks.erased.keeps.file.front (written_blocks (from).root [] p.disks.erased.keeps.blocks) ≡ w.kept.gate
-  tail = tail_at (point (sealed_part h)) (is_hidden (sealed_part h)) _ (sealed_part h) p.disks.erased ∙ sym (tails_kept w.kept h p.keeps p.disks.erased.lawful.blocks_are p.disks.erased.parts)
-
-  has_block : IsCommitted tells w.kept.in_a w.kept.gate (next_bytes h) w.disks disks
-      → HasBlock p.disks.erased.keeps.file.front (written_blocks (from).root [] p.disks.erased.keeps.blocks) (next_bytes h) (open_bytes w.kept.in_a disks)
-  has_block c = c.has p.told p.disks.erased.keeps.file.front (written_blocks (from).root [] p.disks.erased.keeps.blocks) p.disks.erased.keeps.file.stands tail
-
-  -- that was done
-  pub commit_quiet : IsCommitted tells w.kept.in_a w.kept.gate (next_bytes h) w.disks disks → IsSettled (open_bytes w.kept.in_a disks)
-  commit_quiet c = (has_block c).nothing_pending
-
-  pub commit_stands : IsCommitted tells w.kept.in_a w.kept.gate (next_bytes h) w.disks disks
-      → StandsBy (point (sealed_part h)) (hidden_before (sealed_part (close h))) (open_bytes w.kept.in_a disks).seen (sealed_part (close h))
-  commit_stands c = block_stands w.kept h p.keeps some most _ _ p.disks.erased (has_block c).stands
-
-  -- .. or that failed
-  pub commit_left : (i j : List ℕ) → IsUncommitted tells w.kept.in_a w.kept.gate (next_bytes h) w.disks disks → MayLeave disks.a.bytes i → MayLeave disks.b.bytes j
-      → (PairOpen i j (sealed_part h) × IsErasedPair i j (sealed_part h)) ⊎ PairOpen i j (sealed_part (close h))
-  commit_left i j c left_a left_b =
-      let in_a = w.kept.in_a in
-      let x = p.disks.erased in
-      let empty : other_of in_a disks.a.bytes disks.b.bytes ≡ settled_state [] = c.other ∙ p.disks.empty in
-      elim (c.may p.told p.disks.quiet x.keeps.file.front (written_blocks (from).root [] x.keeps.blocks) x.keeps.file.stands tail (open_of in_a i j) (open_left in_a disks.a.bytes disks.b.bytes i j left_a left_b)) [
-        | inl s ↦
-            let erased = stands_by _ (open_of in_a i j) (sealed_part h) x s in
-            inl (pair_alone in_a disks.a.bytes disks.b.bytes i j (sealed_part h) empty left_a left_b (erased_stands _ (sealed_part h) erased), erased_of in_a disks.a.bytes disks.b.bytes i j (sealed_part h) empty left_a left_b erased)
-        | inr s ↦
-            let g = sealed_part (close h) in
-            inr (pair_alone in_a disks.a.bytes disks.b.bytes i j g empty left_a left_b (stands_from (point (sealed_part h)) (open_of in_a i j) g (block_begins w.kept h p.keeps some most _ x) (block_stands w.kept h p.keeps some most _ (open_of in_a i j) x s)))
-      ]
-
 -- ---- places
 
 pub places_more : (at : ℕ) (bs : List (List Entry)) (b : List Entry) → places_at at (bs ++ b ∷ []) ≡ places_at at bs ++ places_in (body_from (after_at at bs)) b
@@ -278,7 +202,7 @@ places_more at (x ∷ bs) b =
     let next = body_from at + sum_by record_len x in
     ap (λ (l : List PlaceAt). places_in (body_from at) x ++ l) (places_more next bs b) ∙ sym (append_assoc (places_in (body_from at) x) (places_at next bs) (places_in (body_from (after_at next bs)) b))
 
-after_more : (at : ℕ) (bs : List (List Entry)) (b : List Entry) → after_at at (bs ++ b ∷ []) ≡ body_from (after_at at bs) + sum_by record_len b
+pub after_more : (at : ℕ) (bs : List (List Entry)) (b : List Entry) → after_at at (bs ++ b ∷ []) ≡ body_from (after_at at bs) + sum_by record_len b
 after_more at [] b = refl
 after_more at (x ∷ bs) b = after_more (body_from at + sum_by record_len x) bs b
 
@@ -292,34 +216,5 @@ places_in_more at (x ∷ es) e =
 pub body_len : (n : ℕ) (es : List Entry) → AreFrom n es → length (body_of es) ≡ sum_by record_len es
 body_len n es a = body_size es (readable n es a)
 
-pub bytes_len : (h : History) → AreFrom (sealed_size h) h.waiting → length (next_bytes h) ≡ BLOCK_HEAD_LEN + sum_by record_len h.waiting
+pub bytes_len : (h : History) → AreFrom (sealed_size h) h.waiting → length (last_bytes h) ≡ BLOCK_HEAD_LEN + sum_by record_len h.waiting
 bytes_len h a = block_size (mth sha256 (leaves h)) h.waiting (mth_size (leaves h)) (readable (sealed_size h) h.waiting a)
-
--- ---- what is kept of the blocks, with the open block behind them
-
-module _ (k : CommitterState) (h : History) (p : Keeps k h) (some : 1 ≤ length h.waiting) (begun : 1 ≤ size (sealed_part h)) where
-  abbrev pub parts_close : Parts k.book.floor (sealed_part (close h))
-  parts_close = record {
-    gone = p.located.parts.gone;
-    kept = p.located.parts.kept ++ h.waiting ∷ [];
-    are = closed_is h some ∙ ap (λ (l : List (List Entry)). l ++ h.waiting ∷ []) p.located.parts.are ∙ append_assoc p.located.parts.gone p.located.parts.kept (h.waiting ∷ []);
-    at = p.located.parts.at;
-  }
-
-  -- the file begins where it began
-  same_floor : floor_behind (sealed_part (close h)) p.located.parts.gone ≡ floor_behind (sealed_part h) p.located.parts.gone
-  same_floor =
-      ap (λ (g : History). floor_behind g p.located.parts.gone) (sym (sealed_close h some))
-      ∙ floor_kept (sealed_part h) h.waiting refl some p.located.parts.gone (omega (arith, p.located.parts.at, gone_few k.book.floor (sealed_part h) refl p.located.parts)) (omega (arith, begun))
-
-  pub places_close : k.places ≡ places_from (floor_behind (sealed_part (close h)) p.located.parts.gone) (p.located.parts.kept ++ h.waiting ∷ [])
-  places_close =
-      let from = floor_behind (sealed_part h) p.located.parts.gone in
-      p.located.places ∙ ap (λ (n : ℕ). places_from from p.located.parts.kept ++ places_in (body_from n) h.waiting) p.located.tail
-      ∙ sym (places_more (64 + length from.base) p.located.parts.kept h.waiting) ∙ ap (λ (f : Floor). places_from f (p.located.parts.kept ++ h.waiting ∷ [])) (sym (same_floor))
-
-  pub tail_close : (next : ℕ) → next ≡ k.gate + 1 + length (next_bytes h) → next ≡ gate_behind (floor_behind (sealed_part (close h)) p.located.parts.gone) (p.located.parts.kept ++ h.waiting ∷ [])
-  tail_close next at =
-      let from = floor_behind (sealed_part h) p.located.parts.gone in
-      let is : next ≡ gate_behind from (p.located.parts.kept ++ h.waiting ∷ []) = omega (arith, at, bytes_len h p.next, p.located.tail, after_more (64 + length from.base) p.located.parts.kept h.waiting) in
-      is ∙ ap (λ (f : Floor). gate_behind f (p.located.parts.kept ++ h.waiting ∷ [])) (sym (same_floor))

@@ -6,10 +6,11 @@ use Rattle.std.proofs.Common.{◌≡◌, inl, inr, ℕ, ◌+◌, ◌<◌, ◌≤
 use Rattle.std.proofs.KnownBytes.{Appends-nil}
 use Rattle.std.proofs.lemmas.List.{nil_from_length}
 use Rattle.block_file.specs.declared.block.TheConstants.{BLOCK_HEAD_LEN}
-use Rattle.block_file.specs.File.{IsShutAt}
+use Rattle.block_file.specs.File.{IsShutAt, IsGroupOf}
 use Rattle.journal_record.specs.Entry.{Entry}
 use Rattle.sha2.specs.Sha256.{sha256}
 use Rattle.tree_model.specs.Tree.{mth}
+use Rattle.ledger_bytes.specs.Begins.{Begins}
 use Rattle.ledger_bytes.specs.declared.limits.TheConstants.{BLOCK_LIMIT}
 use Rattle.merkle_tree.specs.declared.head.Head.{Head}
 use Rattle.journal_record.specs.Blocks.{body_of, block_bytes, AreFrom}
@@ -19,12 +20,12 @@ use Rattle.ledger_io.specs.declared.writer.WriteErr.{WriteErr}
 use Rattle.ledger_io.specs.declared.writer.WriteErr.TheVariants as failed
 use Rattle.ledger_model.specs.Dues.{due_lines, AllWaiting, AllIn}
 use Rattle.ledger_model.specs.Growing.{Grows}
-use Rattle.ledger_model.specs.History.{History, journals_of, leaves, root, close}
+use Rattle.ledger_model.specs.History.{History, history, journals_of, leaves, root, point, close}
 use Rattle.ledger_model.specs.Lawful.{AllGather}
 use Rattle.ledger_model.specs.Limits.{real_limits}
 use Rattle.ledger_model.specs.declared.due.Due.{Due}
-use Rattle.ledger_model.proofs.GrowLaws.{grows_close, close_none, close_settled, size_close, size_closed}
-use Rattle.ledger_model.proofs.WaitLaws.{begins_closed, lines_ended, all_in_ended}
+use Rattle.ledger_model.proofs.GrowLaws.{grows_close, close_none}
+use Rattle.ledger_model.proofs.WaitLaws.{begins_closed}
 use Rattle.ledger_book.specs.Books as books
 use Rattle.ledger_book.specs.Books.{Stands, Serves, sealed_size}
 use Rattle.ledger_book.specs.Seals as seals
@@ -40,37 +41,41 @@ use Rattle.ledger_open.specs.Standing.{floor_behind}
 use Rattle.block_file.specs.declared.place.PlaceAt.{PlaceAt}
 use Rattle.batch_committer.specs.Committed.{IsCommitted, IsUncommitted, IsStanding, IsFinished, IsUnfinished, open_bytes}
 use Rattle.block_file.specs.Writing as spell
-use Rattle.batch_committer.specs.Steps.{AllKept, AreLastFrom}
-use Rattle.batch_committer.specs.World.{CommitterState, World, Pair, world, Fits, Located, Keeps, IsCleanFor, Holds, Writes, Goes, Says, LeftAtTheEnd, EndsOnTheWay, IsUnanswered, sealed_part}
+use Rattle.block_file.specs.Writing.{ended_blocks}
+use Rattle.batch_committer.specs.Steps.{last_bytes}
+use Rattle.batch_committer.specs.World.{CommitterState, World, Pair, world, first_kept, Fits, IsGathering, Located, Owes, Keeps, Holds, Writes, Goes, Says, LeftAtTheEnd, EndsOnTheWay, IsUnanswered, sealed_part, stored_part}
 use Rattle.batch_committer.specs.declared.failure.CommitErr.{CommitErr}
 use Rattle.batch_committer.specs.declared.failure.CommitErr.TheVariants.{DiskFault, WriteFault, NoMemory}
-use Rattle.batch_committer.proofs.Closing.{next_bytes, root_closed, closed_is, clean_image, clean_pair, left_clean, commit_left, tails_kept, sealed_same}
-use Rattle.batch_committer.proofs.Finishing.{held_ledger, tails_clean, clean_for, located_clean, standing}
+use Rattle.batch_committer.proofs.Closing.{root_closed, closed_is, clean_image, clean_pair, left_clean, sealed_same}
+use Rattle.batch_committer.proofs.Finishing.{held_ledger, tails_clean, clean_for, gathers_none, located_clean, standing}
+use Rattle.batch_committer.proofs.Grouped.{stored_split, stored_all, stored_begins, group_of, tails_held, commit_left}
 use Rattle.batch_committer.proofs.Ordering.{order_wider}
-use Rattle.batch_committer.proofs.Parting.{TailsAt}
-use Rattle.batch_committer.proofs.Spelling.{last_closed, dues_kept}
-use Rattle.batch_committer.proofs.WayLaws.{begins_not, failed_from}
+use Rattle.batch_committer.proofs.Spelling.{told_ended, lines_later}
+use Rattle.batch_committer.proofs.WayLaws.{begins_not, begins_then, failed_from}
 
--- where the tail gate stands of a history that is held
-tails_held : (tells : Bool) (w : World) (h : History) → Holds tells w h → TailsAt w.kept.gate (sealed_part h)
-tails_held tells w h p = tails_kept w.kept h p.keeps p.disks.erased.lawful.blocks_are
+-- what is stored begins each history that comes of the one that is held
+pub stored_of : (k : CommitterState) (h whole : History) (g : IsGathering k h) → Grows h whole → Begins g.stored whole.closed
+stored_of k h whole g x = begins_then g.stored h.closed whole.closed (record { rest = g.blocks; is = g.are }) (begins_closed h whole x)
 
 -- nothing was written yet, and the disks are what they were
-pub stops_before : (tells : Bool) (w : World) (h whole : History) (ds : List Due) (end : CommitErr) → Says end [] [] → Grows h whole → Holds tells w h → LeftAtTheEnd h whole ds end [] w.disks
-stops_before tells w h whole ds end says x p = record {
-  done = [];
-  rest = ds;
-  split = refl;
-  said = λ f y none. says;
-  images = λ i j left_a left_b. record {
-    kept = sealed_part h;
-    stands = clean_image w.kept.in_a w.kept.gate (sealed_part h) w.disks.a.bytes w.disks.b.bytes i j p.disks left_a left_b;
-    no_shorter = begins_not h.closed;
-    no_longer = begins_closed h whole x;
-    receipts = tt;
-    clean = left_clean end h (sealed_part h) [] i j (clean_pair w.kept.in_a w.kept.gate (sealed_part h) w.disks.a.bytes w.disks.b.bytes i j (tails_held tells w h p) p.disks left_a left_b);
-  };
-}
+pub stops_before : (tells : Bool) (w : World) (h whole : History) (ds : List Due) (end : CommitErr) → Says end [] [] → Grows h whole → Holds tells w h → LeftAtTheEnd (stored_part w.kept h) whole ds end [] w.disks
+stops_before tells w h whole ds end says x p =
+    let s = history p.keeps.group.stored [] in
+    subst (λ (k : History). LeftAtTheEnd k whole ds end [] w.disks) (sym (stored_split w.kept h p.keeps.group))
+    (record {
+      done = [];
+      rest = ds;
+      split = refl;
+      said = λ f y none. says;
+      images = λ i j left_a left_b. record {
+        kept = s;
+        stands = clean_image w.kept.in_a w.kept.gate s w.disks.a.bytes w.disks.b.bytes i j p.disks left_a left_b;
+        no_shorter = begins_not p.keeps.group.stored;
+        no_longer = stored_of w.kept h whole p.keeps.group x;
+        receipts = tt;
+        clean = left_clean end s s [] i j (clean_pair w.kept.in_a w.kept.gate s w.disks.a.bytes w.disks.b.bytes i j (tails_held tells w h p) p.disks left_a left_b);
+      };
+    })
 
 -- memory was short before anything was done on the way to a history
 pub no_memory : (tells : Bool) (w : World) (k : CommitterState) (f : History → History) (d : History → List Due) → ((h : History) → Holds tells w h → Grows h (f h)) → EndsOnTheWay tells w f d NoMemory (world k w.disks w.sink)
@@ -86,225 +91,193 @@ pub end_unspelled : (tells : Bool) (w : World) (k : CommitterState) → EndsOnTh
 end_unspelled tells w k = no_memory tells w k close (λ h. []) (λ h p. grows_close h)
 
 -- all that was due is written
-pub writes_ended : (h : History) (ds : List Due) (text : List ℕ) → AllWaiting h ds → text ≡ due_lines (close h) ds → Writes (close h) ds [] [] text
-writes_ended h ds text waits is = record {
-  done = ds;
+pub writes_ended : (k new : CommitterState) (h : History) (text : List ℕ) → Owes k h → new.ended ≡ 0 → text ≡ k.lines ++ due_lines (close h) (drop k.spelled k.dues) → Writes (close h) (stored_part new (close h)) k.dues [] [] text
+writes_ended k new h text o none is = record {
+  done = k.dues;
   split = refl;
-  kept = all_in_ended h ds waits;
-  text = λ f y none. is ∙ lines_ended h f ds y waits;
+  kept = subst (λ (g : History). AllIn g.closed k.dues) (sym (stored_all new (close h) none)) (told_ended k h o);
+  text = λ f y settled. is ∙ lines_later k h f o y settled;
 }
 
 -- the first of what is due, up to a fault of the sink
-says_first : (h f : History) (ds : List Due) (text : List ℕ) (taken : ℕ) → AllWaiting h ds → text ≡ due_lines (close h) ds → taken < length text → Grows (close h) f → Says WriteFault (take taken text) (due_lines f ds)
-says_first h f ds text taken waits is few y =
-    subst (Says WriteFault (take taken text)) (is ∙ lines_ended h f ds y waits)
-    (record { rest = drop taken text; is = sym (take-append-drop taken text) }, omega (arith, few, length-take taken text))
+pub says_first : (text lines : List ℕ) (taken : ℕ) → text ≡ lines → taken < length text → Says WriteFault (take taken text) lines
+says_first text lines taken is few = subst (Says WriteFault (take taken text)) is (record { rest = drop taken text; is = sym (take-append-drop taken text) }, omega (arith, few, length-take taken text))
 
 -- ---- a block that is committed
 
+-- what is kept of a ledger behind which a group begins
+abbrev pub begun_kept : CommitterState → CommitterState
+begun_kept k = first_kept k.book k.places k.gate k.in_a k.edition k.copy
+
 -- what is kept once the open block has ended, and what its journal hides or purges was given up
-pub keeps_closed : (k : CommitterState) (disks : Pair) (h : History) → k.book.limits ≡ real_limits → k.body ≡ [] → k.dues ≡ [] → IsCleanOpen (held_ledger k disks) (sealed_part (close h)) → Keeps k (close h)
-keeps_closed k disks h limits body dues c =
+pub keeps_closed : (k : CommitterState) (disks : Pair) (h : History) → k.book.limits ≡ real_limits → IsCleanOpen (held_ledger k disks) (sealed_part (close h)) → Keeps (begun_kept k) (close h)
+keeps_closed k disks h limits c =
     let none = close_none h in record {
       serves = subst (Serves k.book) (sealed_same (close h) none) c.ends.serves;
       limits = limits;
       floor = c.floor;
-      dues = subst (AllWaiting (close h)) (sym dues) tt;
-      body = body ∙ sym (ap body_of none);
+      dues = record { few = omega arith; told = tt; lines = λ f y settled. refl; waits = tt };
+      body = sym (ap body_of none);
       next = subst (AreFrom (sealed_size (close h))) (sym none) tt;
       gathered = λ more. subst AllGather (sym none) refl;
-      located = located_clean k disks (close h) none c;
+      group = gathers_none (begun_kept k) (close h) refl refl;
+      located = located_clean (begun_kept k) disks (close h) none refl c;
     }
 
--- the bytes and the lines of the open block, at its end
-pub record AtEnd (tells : Bool) (w : World) (block text : List ℕ) : Type 0 where
+-- the bytes and the lines of the group, at the end of its last block
+pub record AtEnd (tells : Bool) (w : World) (bytes text : List ℕ) : Type 0 where
   pub some : (h : History) → Holds tells w h → 1 ≤ length h.waiting
   pub most : (h : History) → Holds tells w h → length h.waiting ≤ BLOCK_LIMIT
-  pub block_is : (h : History) → Holds tells w h → block ≡ next_bytes h
-  pub text_is : (h : History) → Holds tells w h → text ≡ due_lines (close h) w.kept.dues
+  pub group_is : (h : History) (p : Holds tells w h) → IsGroupOf (group_of p.keeps.group ++ last_bytes h ∷ []) bytes
+  pub behind : (h : History) → Holds tells w h → w.kept.gate + 1 + length bytes ≡ w.kept.next + 1 + length (last_bytes h)
+  pub text_is : (h : History) → Holds tells w h → text ≡ w.kept.lines ++ due_lines (close h) (drop w.kept.spelled w.kept.dues)
 
 -- an open ledger by its parts
 abbrev pub ledger_of : books.Kept → List PlaceAt → Pair → ℕ → Bool → Edition → Ledger
 ledger_of book places disks place in_a edition = record { known = known_from book places place; in_a = in_a; edition = edition; a = disks.a.bytes; b = disks.b.bytes }
 
--- the ledger in front of what is given up: the block stands behind its file
+-- the ledger in front of what is given up: the group stands behind its file
 abbrev pub mid_ledger : World → books.Kept → List ℕ → Pair → Ledger
-mid_ledger w book block mid = held_ledger (record w.kept { book = book; gate = w.kept.gate + 1 + length block }) mid
+mid_ledger w book bytes mid = held_ledger (record w.kept { book = book; gate = w.kept.gate + 1 + length bytes }) mid
 
 -- .. and nothing else than that has happened
-pub record IsAtEnd (tells : Bool) (w : World) (book : books.Kept) (block : List ℕ) (mid : Pair) : Type 0 where
+pub record IsAtEnd (tells : Bool) (w : World) (book : books.Kept) (bytes : List ℕ) (mid : Pair) : Type 0 where
   pub serves : (h : History) → Serves w.kept.book h → Serves book (close h)
   pub same : IsSame w.kept.book book
-  pub committed : IsCommitted tells w.kept.in_a w.kept.gate block w.disks mid
+  pub committed : IsCommitted tells w.kept.in_a w.kept.gate bytes w.disks mid
   pub named : IsTrue tells → w.kept.edition ≡ edition_of (open_bytes w.kept.in_a mid).seen
 
-module _ (tells : Bool) (w : World) (block text : List ℕ) (e : AtEnd tells w block text) where
+module _ (tells : Bool) (w : World) (bytes text : List ℕ) (e : AtEnd tells w bytes text) where
+  -- from what is stored to the history with its open block ended
+  from_stored : (h : History) (p : Holds tells w h) → Begins p.keeps.group.stored (close h).closed
+  from_stored h p = stored_of w.kept h (close h) p.keeps.group (grows_close h)
+
   -- the block is a new one, and nothing that is due was written
-  pub unanswered : (h : History) → Holds tells w h → IsUnanswered h (sealed_part (close h)) []
+  pub unanswered : (h : History) (p : Holds tells w h) → IsUnanswered (history p.keeps.group.stored []) (sealed_part (close h)) []
   unanswered h p = record {
-    added = omega (arith, ap (λ (bs : List (List Entry)). length bs) (closed_is h (e.some h p)), length-append h.closed (h.waiting ∷ []));
+    added = omega (arith, ap (λ (bs : List (List Entry)). length bs) (closed_is h (e.some h p)), length-append h.closed (h.waiting ∷ []), ap (λ (bs : List (List Entry)). length bs) p.keeps.group.are, length-append p.keeps.group.stored p.keeps.group.blocks);
     unanswered = tt;
   }
 
   -- the commit failed
-  pub end_uncommitted : (k : CommitterState) (disks : Pair) → IsUncommitted tells w.kept.in_a w.kept.gate block w.disks disks → EndsOnTheWay tells w close (λ h. []) DiskFault (world k disks w.sink)
+  pub end_uncommitted : (k : CommitterState) (disks : Pair) → IsUncommitted tells w.kept.in_a w.kept.gate bytes w.disks disks → EndsOnTheWay tells w close (λ h. []) DiskFault (world k disks w.sink)
   end_uncommitted k disks c = record {
     grows = λ h p. grows_close h;
     part = [];
     appended = Appends-nil w.sink.held;
-    stops = λ h p. record {
-      done = [];
-      rest = w.kept.dues ++ [];
-      split = refl;
-      said = λ f y none. refl;
-      images = λ i j left_a left_b.
-          elim (commit_left tells w h p (e.some h p) (e.most h p) disks i j (subst (λ (l : List ℕ). IsUncommitted tells w.kept.in_a w.kept.gate l w.disks disks) (e.block_is h p) c) left_a left_b) [
-            | inl x ↦ record { kept = sealed_part h; stands = x.0; no_shorter = begins_not h.closed; no_longer = begins_closed h (close h) (grows_close h); receipts = tt; clean = inl x.1 }
-            | inr x ↦ record { kept = sealed_part (close h); stands = x; no_shorter = begins_closed h (close h) (grows_close h); no_longer = begins_not (close h).closed; receipts = tt; clean = inr (unanswered h p) }
-          ];
-    };
+    stops = λ h p.
+        let s = history p.keeps.group.stored [] in
+        subst (λ (k : History). LeftAtTheEnd k (close h) (w.kept.dues ++ []) DiskFault [] disks) (sym (stored_split w.kept h p.keeps.group))
+        (record {
+          done = [];
+          rest = w.kept.dues ++ [];
+          split = refl;
+          said = λ f y none. refl;
+          images = λ i j left_a left_b.
+              elim (commit_left tells w h p (e.some h p) (e.most h p) bytes (e.group_is h p) disks i j c left_a left_b) [
+                | inl x ↦ record { kept = s; stands = x.0; no_shorter = begins_not s.closed; no_longer = from_stored h p; receipts = tt; clean = inl x.1 }
+                | inr x ↦ record { kept = sealed_part (close h); stands = x; no_shorter = from_stored h p; no_longer = begins_not (close h).closed; receipts = tt; clean = inr (unanswered h p) }
+              ];
+        });
     cause = (c.failed, (refl, refl));
   }
 
-  module _ (book : books.Kept) (mid : Pair) (at : IsAtEnd tells w book block mid) where
-    -- the file with the block stands for the history with its open block ended
-    stands_then : (h : History) → Holds tells w h → IsStanding (mid_ledger w book block mid) (sealed_part (close h))
+  module _ (book : books.Kept) (mid : Pair) (at : IsAtEnd tells w book bytes mid) where
+    -- the file with the group stands for the history with its open block ended
+    stands_then : (h : History) → Holds tells w h → IsStanding (mid_ledger w book bytes mid) (sealed_part (close h))
     stands_then h p =
-        let is = e.block_is h p in
-        standing tells w h p (e.some h p) (e.most h p) book (at.serves h p.keeps.serves) at.same mid (subst (λ (l : List ℕ). IsCommitted tells w.kept.in_a w.kept.gate l w.disks mid) is at.committed)
-        (w.kept.gate + 1 + length block) (ap (λ (l : List ℕ). w.kept.gate + 1 + length l) is) (at.named p.told)
+        standing tells w h p (e.some h p) (e.most h p) book (at.serves h p.keeps.serves) at.same bytes (e.group_is h p) mid at.committed (w.kept.gate + 1 + length bytes) refl (e.behind h p) (at.named p.told)
 
-    module _ (k : CommitterState) (disks : Pair) (f : IsFinished tells (mid_ledger w book block mid) (held_ledger k disks) mid disks) where
+    module _ (k : CommitterState) (disks : Pair) (f : IsFinished tells (mid_ledger w book bytes mid) (held_ledger k disks) mid disks) where
       clean_then : (h : History) → Holds tells w h → IsCleanOpen (held_ledger k disks) (sealed_part (close h))
       clean_then h p = f.clean p.told (sealed_part (close h)) (stands_then h p)
 
       -- all went well
-      pub end_goes : (sink : SinkState) → k.body ≡ [] → k.dues ≡ [] → Appends w.sink.held sink.held text → MeetsNone w.sink sink → Goes tells w close (λ h. []) (world k disks sink)
-      end_goes sink body dues appended none = record {
+      pub end_goes : (sink : SinkState) → Appends w.sink.held sink.held text → MeetsNone w.sink sink → Goes tells w close (λ h. []) (world (begun_kept k) disks sink)
+      end_goes sink appended none = record {
         holds = λ h p. record {
           told = p.told;
-          keeps = keeps_closed k disks h (f.limits ∙ at.same.limits ∙ p.keeps.limits) body dues (clean_then h p);
+          keeps = keeps_closed k disks h (f.limits ∙ at.same.limits ∙ p.keeps.limits) (clean_then h p);
           disks = clean_for (held_ledger k disks) (sealed_part (close h)) (clean_then h p);
         };
         grows = λ h p. grows_close h;
+        stays = λ h p.
+            subst (λ (g : History). Begins (stored_part w.kept h).closed g.closed) (sym (stored_all (begun_kept k) (close h) refl))
+            (begins_then (stored_part w.kept h).closed h.closed (close h).closed (stored_begins w.kept h) (begins_closed h (close h) (grows_close h)));
         sofar = text;
         appended = appended;
-        writes = λ h p. subst (λ (new : List Due). Writes (close h) w.kept.dues [] new text) (sym dues) (writes_ended h w.kept.dues text p.keeps.dues (e.text_is h p));
+        writes = λ h p. writes_ended w.kept (begun_kept k) h text p.keeps.dues refl (e.text_is h p);
         no_fault = record { a = f.faults_a ∙ at.committed.faults_a; b = f.faults_b ∙ at.committed.faults_b; sink = none };
       }
 
       -- the sink failed
-      pub end_unwritten : (sink : SinkState) (taken : ℕ) → taken < length text → Appends w.sink.held sink.held (take taken text) → MeetsOne w.sink sink → EndsOnTheWay tells w close (λ h. []) WriteFault (world k disks sink)
-      end_unwritten sink taken few appended one = record {
+      pub end_unwritten : (t : CommitterState) (sink : SinkState) (taken : ℕ) → taken < length text → Appends w.sink.held sink.held (take taken text) → MeetsOne w.sink sink → EndsOnTheWay tells w close (λ h. []) WriteFault (world t disks sink)
+      end_unwritten t sink taken few appended one = record {
         grows = λ h p. grows_close h;
         part = take taken text;
         appended = appended;
         stops = λ h p.
             let c = clean_then h p in
-            let x = clean_for (held_ledger k disks) (sealed_part (close h)) c in record {
+            let x = clean_for (held_ledger k disks) (sealed_part (close h)) c in
+            subst (λ (g : History). LeftAtTheEnd g (close h) (w.kept.dues ++ []) WriteFault (take taken text) disks) (sym (stored_split w.kept h p.keeps.group))
+            (record {
               done = w.kept.dues;
               rest = [];
               split = refl;
-              said = λ f y none. says_first h f w.kept.dues text taken p.keeps.dues (e.text_is h p) few y;
+              said = λ f y none. says_first text (due_lines f w.kept.dues) taken (e.text_is h p ∙ lines_later w.kept h f p.keeps.dues y none) few;
               images = λ i j left_a left_b. record {
                 kept = sealed_part (close h);
                 stands = clean_image k.in_a k.gate (sealed_part (close h)) disks.a.bytes disks.b.bytes i j x left_a left_b;
-                no_shorter = begins_closed h (close h) (grows_close h);
+                no_shorter = from_stored h p;
                 no_longer = begins_not (close h).closed;
-                receipts = all_in_ended h w.kept.dues p.keeps.dues;
+                receipts = told_ended w.kept h p.keeps.dues;
                 clean = clean_pair k.in_a k.gate (sealed_part (close h)) disks.a.bytes disks.b.bytes i j (tails_clean (held_ledger k disks) (sealed_part (close h)) c) x left_a left_b;
               };
-            };
+            });
         cause = (f.faults_a ∙ at.committed.faults_a, f.faults_b ∙ at.committed.faults_b, one);
       }
 
     -- the block is on the disk, and what its journal hides or purges couldn't be given up
-    pub end_unfinished : (k : CommitterState) (disks : Pair) → IsUnfinished tells (mid_ledger w book block mid) mid disks → EndsOnTheWay tells w close (λ h. []) DiskFault (world k disks w.sink)
+    pub end_unfinished : (k : CommitterState) (disks : Pair) → IsUnfinished tells (mid_ledger w book bytes mid) mid disks → EndsOnTheWay tells w close (λ h. []) DiskFault (world k disks w.sink)
     end_unfinished k disks u = record {
       grows = λ h p. grows_close h;
       part = [];
       appended = Appends-nil w.sink.held;
-      stops = λ h p. record {
-        done = [];
-        rest = w.kept.dues ++ [];
-        split = refl;
-        said = λ f y none. refl;
-        images = λ i j left_a left_b. record {
-          kept = sealed_part (close h);
-          stands = u.meanwhile p.told (sealed_part (close h)) (stands_then h p) i j left_a left_b;
-          no_shorter = begins_closed h (close h) (grows_close h);
-          no_longer = begins_not (close h).closed;
-          receipts = tt;
-          clean = inr (unanswered h p);
-        };
-      };
+      stops = λ h p.
+          subst (λ (g : History). LeftAtTheEnd g (close h) (w.kept.dues ++ []) DiskFault [] disks) (sym (stored_split w.kept h p.keeps.group))
+          (record {
+            done = [];
+            rest = w.kept.dues ++ [];
+            split = refl;
+            said = λ f y none. refl;
+            images = λ i j left_a left_b. record {
+              kept = sealed_part (close h);
+              stands = u.meanwhile p.told (sealed_part (close h)) (stands_then h p) i j left_a left_b;
+              no_shorter = from_stored h p;
+              no_longer = begins_not (close h).closed;
+              receipts = tt;
+              clean = inr (unanswered h p);
+            };
+          });
       cause = (failed_from w.disks mid disks at.committed.faults_a at.committed.faults_b u.failed, (refl, refl));
     }
 
--- the places, where nothing that counts has changed
-pub located_same : (old new : CommitterState) (h : History) → new.book.floor ≡ old.book.floor → new.places ≡ old.places → new.gate ≡ old.gate → Located old h → Located new h
-located_same old new h floor places place l = record {
+-- what is gathered, where nothing that counts has changed
+abbrev pub group_same : {old new : CommitterState} {h g : History} → g.closed ≡ h.closed → new.ended ≡ old.ended → new.before ≡ old.before → IsGathering old h → IsGathering new g
+group_same closed ended before x = record { stored = x.stored; blocks = x.blocks; are = closed ∙ x.are; count = x.count ∙ sym ended; follow = x.follow; alike = x.alike; bytes = before ∙ x.bytes }
+
+-- .. and the places
+pub located_same : (old new : CommitterState) (h : History) (stored blocks : List (List Entry)) → new.book.floor ≡ old.book.floor → new.places ≡ old.places → new.gate ≡ old.gate → new.next ≡ old.next → Located old h stored blocks → Located new h stored blocks
+located_same old new h stored blocks floor places place next l = record {
   parts = record { gone = l.parts.gone; kept = l.parts.kept; are = l.parts.are; at = l.parts.at ∙ sym floor };
-  places = places ∙ l.places ∙ ap (λ (n : ℕ). places_from (floor_behind (sealed_part h) l.parts.gone) l.parts.kept ++ places_in (body_from n) h.waiting) (sym place);
+  places = places ∙ l.places ∙ ap (λ (n : ℕ). places_from (floor_behind (history stored []) l.parts.gone) (l.parts.kept ++ blocks) ++ places_in (body_from n) h.waiting) (sym next);
   tail = place ∙ l.tail;
+  next = next ∙ l.next;
 }
-
--- ---- nothing waits for the end of the open block: what is due is written
-
-module _ (tells : Bool) (w : World) (text : List ℕ) (none : (h : History) → Holds tells w h → h.waiting ≡ []) (text_is : (h : History) → Holds tells w h → text ≡ due_lines h w.kept.dues) where
-  text_then : (h : History) → Holds tells w h → text ≡ due_lines (close h) w.kept.dues
-  text_then h p = text_is h p ∙ ap (λ (g : History). due_lines g w.kept.dues) (close_settled h (none h p))
-
-  pub write_goes : (k : CommitterState) (sink : SinkState) → k.book ≡ w.kept.book → k.gate ≡ w.kept.gate → k.in_a ≡ w.kept.in_a → k.body ≡ w.kept.body → k.places ≡ w.kept.places → k.dues ≡ []
-      → Appends w.sink.held sink.held text → MeetsNone w.sink sink → Goes tells w close (λ h. []) (world k w.disks sink)
-  write_goes k sink book place in_a body places dues appended met = record {
-    holds = λ h p. subst (Holds tells (world k w.disks sink)) (close_settled h (none h p)) (record {
-      told = p.told;
-      keeps = record {
-        serves = subst (λ b. Serves b h) (sym book) p.keeps.serves;
-        limits = ap (λ (b : books.Kept). b.limits) book ∙ p.keeps.limits;
-        floor = ap (λ (b : books.Kept). b.floor) book ∙ p.keeps.floor;
-        dues = subst (AllWaiting h) (sym dues) tt;
-        body = body ∙ p.keeps.body;
-        next = p.keeps.next;
-        gathered = p.keeps.gathered;
-        located = located_same w.kept k h (ap (λ (b : books.Kept). b.floor) book) places place p.keeps.located;
-      };
-      disks = subst (λ v. IsCleanFor v k.gate (sealed_part h) w.disks.a.bytes w.disks.b.bytes) (sym in_a) (subst (λ at. IsCleanFor w.kept.in_a at (sealed_part h) w.disks.a.bytes w.disks.b.bytes) (sym place) p.disks);
-    });
-    grows = λ h p. grows_close h;
-    sofar = text;
-    appended = appended;
-    writes = λ h p. subst (λ (new : List Due). Writes (close h) w.kept.dues [] new text) (sym dues) (writes_ended h w.kept.dues text p.keeps.dues (text_then h p));
-    no_fault = record { a = refl; b = refl; sink = met };
-  }
-
-  pub write_unwritten : (k : CommitterState) (sink : SinkState) (taken : ℕ) → taken < length text → Appends w.sink.held sink.held (take taken text)
-      → MeetsOne w.sink sink → EndsOnTheWay tells w close (λ h. []) WriteFault (world k w.disks sink)
-  write_unwritten k sink taken few appended one = record {
-    grows = λ h p. grows_close h;
-    part = take taken text;
-    appended = appended;
-    stops = λ h p. record {
-      done = w.kept.dues;
-      rest = [];
-      split = refl;
-      said = λ f y none. says_first h f w.kept.dues text taken p.keeps.dues (text_then h p) few y;
-      images = λ i j left_a left_b. record {
-        kept = sealed_part h;
-        stands = clean_image w.kept.in_a w.kept.gate (sealed_part h) w.disks.a.bytes w.disks.b.bytes i j p.disks left_a left_b;
-        no_shorter = begins_not h.closed;
-        no_longer = begins_closed h (close h) (grows_close h);
-        receipts = subst (λ (g : History). AllIn g.closed w.kept.dues) (sym (close_settled h (none h p))) (all_in_ended h w.kept.dues p.keeps.dues);
-        clean = clean_pair w.kept.in_a w.kept.gate (sealed_part h) w.disks.a.bytes w.disks.b.bytes i j (tails_held tells w h p) p.disks left_a left_b;
-      };
-    };
-    cause = (refl, refl, one);
-  }
 
 -- ---- what the code gathered is the block at its end
 
-block_spelled : (h : History) (count : ℕ) (root_is body : List ℕ) → count ≡ length h.waiting → root_is ≡ root (close h) (sealed_size (close h)) → body ≡ body_of h.waiting → spell.block_head count (length body) root_is ++ body ≡ next_bytes h
+block_spelled : (h : History) (count : ℕ) (root_is body : List ℕ) → count ≡ length h.waiting → root_is ≡ root (close h) (sealed_size (close h)) → body ≡ body_of h.waiting → spell.block_head count (length body) root_is ++ body ≡ last_bytes h
 unfolding block_bytes
 block_spelled h count root_is body c r b =
     ap (λ l. spell.block_head count (length l) root_is ++ l) b ∙ ap (λ n. spell.block_head n (length (body_of h.waiting)) root_is ++ body_of h.waiting) c
@@ -312,18 +285,17 @@ block_spelled h count root_is body c r b =
     ∙ append_assoc (to_be_bytes w32 (length h.waiting)) (to_be_bytes w64 (length (body_of h.waiting)) ++ mth sha256 (leaves h)) (body_of h.waiting)
     ∙ ap (λ l. to_be_bytes w32 (length h.waiting) ++ l) (append_assoc (to_be_bytes w64 (length (body_of h.waiting))) (mth sha256 (leaves h)) (body_of h.waiting))
 
-pub at_end : (tells : Bool) (w : World) (book : books.Kept) (count first : ℕ) (head : Head) (block text : List ℕ) → book.floor ≡ w.kept.book.floor → first ≡ w.kept.book.sealed → ((h : History) → Serves w.kept.book h → Serves book (close h)) → ((h : History) → Serves w.kept.book h → count ≡ length h.waiting)
-    → ((g : History) → Serves book g → head ≡ seals.head_of g) → block ≡ spell.block_head count (length w.kept.body) head.root.0 ++ w.kept.body → ((g : History) → Serves book g → AreLastFrom first g → AllKept book w.kept.dues → text ≡ due_lines g w.kept.dues)
-    → 1 ≤ count → count ≤ BLOCK_LIMIT → AtEnd tells w block text
-at_end tells w book count first head block text floor from serves counts heads block_is text_is some few = record {
+-- .. and the group with that block is the one that is committed
+pub at_end : (tells : Bool) (w : World) (count : ℕ) (bytes head body text : List ℕ) → w.kept.next ≡ w.kept.gate + length w.kept.before → ((h : History) → Serves w.kept.book h → count ≡ length h.waiting) → bytes ≡ w.kept.before ++ (head ++ body)
+    → ((h : History) → Serves w.kept.book h → w.kept.body ≡ body_of h.waiting → head ++ body ≡ last_bytes h) → ((ended : List (List ℕ)) → w.kept.before ≡ ended_blocks ended → IsGroupOf (ended ++ (head ++ body) ∷ []) bytes)
+    → ((h : History) → Serves w.kept.book h → w.kept.book.floor ≡ point (sealed_part h) → 1 ≤ length h.waiting → AllWaiting h (drop w.kept.spelled w.kept.dues) → text ≡ w.kept.lines ++ due_lines (close h) (drop w.kept.spelled w.kept.dues))
+    → 1 ≤ count → count ≤ BLOCK_LIMIT → AtEnd tells w bytes text
+at_end tells w count bytes head body text follows counts bytes_are block_is group_is text_is some few = record {
   some = λ h p. subst (λ n. 1 ≤ n) (counts h p.keeps.serves) some;
   most = λ h p. subst (λ n. n ≤ BLOCK_LIMIT) (counts h p.keeps.serves) few;
-  block_is = λ h p. block_is ∙ block_spelled h count head.root.0 w.kept.body (counts h p.keeps.serves) (ap (λ (x : Head). x.root.0) (heads (close h) (serves h p.keeps.serves))) p.keeps.body;
-  text_is = λ h p.
-      let s = serves h p.keeps.serves in
-      text_is (close h) s
-      (subst (λ n. AreLastFrom n (close h)) (sym (from ∙ p.keeps.serves.stands.counts.sealed_is)) (last_closed h (subst (λ n. 1 ≤ n) (counts h p.keeps.serves) some)))
-      (dues_kept w.kept book h p.keeps floor (s.stands.counts.sealed_is ∙ sym (size_closed (close h) (close_none h)) ∙ size_close h));
+  group_is = λ h p. subst (λ (l : List ℕ). IsGroupOf (group_of p.keeps.group ++ l ∷ []) bytes) (block_is h p.keeps.serves p.keeps.body) (group_is (group_of p.keeps.group) p.keeps.group.bytes);
+  behind = λ h p. omega (arith, follows, ap length bytes_are, length-append w.kept.before (head ++ body), ap length (block_is h p.keeps.serves p.keeps.body));
+  text_is = λ h p. text_is h p.keeps.serves p.keeps.floor (subst (λ n. 1 ≤ n) (counts h p.keeps.serves) some) p.keeps.dues.waits;
 }
 
 -- the book once the open block has ended
@@ -349,9 +321,9 @@ edition_stays tells in_a place block before after c told = by in_a (c.head told)
   by false is = same_edition after.b.bytes.seen before.b.bytes.seen is
 
 -- where the contents of the open block end, once it has ended
-pub order_ended : (k : CommitterState) (block head : List ℕ) → block ≡ head ++ k.body → length head ≡ BLOCK_HEAD_LEN → AreInOrder 64 (body_from k.gate + length k.body) k.places → AreInOrder 64 (k.gate + 1 + length block) k.places
-order_ended k block head is size all =
-    subst (λ (n : ℕ). AreInOrder 64 n k.places) (omega (arith, ap length is, size, length-append head k.body)) all
+pub order_ended : (k : CommitterState) (bytes head body : List ℕ) → bytes ≡ k.before ++ (head ++ body) → length head ≡ BLOCK_HEAD_LEN → body ≡ k.body → k.next ≡ k.gate + length k.before → AreInOrder 64 (body_from k.next + length k.body) k.places → AreInOrder 64 (k.gate + 1 + length bytes) k.places
+order_ended k bytes head body is size same follows all =
+    subst (λ (n : ℕ). AreInOrder 64 n k.places) (omega (arith, ap length is, size, ap length same, follows, length-append head body, length-append k.before (head ++ body))) all
 
 shut_at : (in_a : Bool) (place : ℕ) (disks : Pair) → IsShutAt place (open_of in_a disks.a.bytes disks.b.bytes).seen → IsShutAt place (open_of in_a disks.a disks.b).bytes.seen
 shut_at true place disks s = s
@@ -371,13 +343,19 @@ edition_at false edition disks is = is
 
 -- what the next call asks for, whatever stands in the files
 pub fits_finished : (tells : Bool) (k : CommitterState) (old : Ledger) (mid disks : Pair) (sink : SinkState) → (IsTrue tells → IsAtGate old) → AreInOrder 64 old.known.gate old.known.places → old.known.book.size ≡ old.known.book.sealed → k.copy ≡ None
-    → IsFinished tells old (held_ledger k disks) mid disks → Fits tells (world k disks sink)
+    → IsFinished tells old (held_ledger k disks) mid disks → Fits tells (world (begun_kept k) disks sink)
 fits_finished tells k old mid disks sink gate order none copy f = record {
   reads = record { told = f.told; shut = λ told. shut_at k.in_a k.gate disks (f.gate told (gate told)).shut };
   edition = λ told. edition_at k.in_a k.edition disks (f.gate told (gate told)).edition;
   copy = copy;
   few = omega (arith, none, f.size, f.sealed);
-  order = order_wider 64 k.gate (body_from k.gate + length k.body) k.places (f.order order) (omega arith);
+  order = order_wider 64 k.gate (body_from k.gate + 0) k.places (f.order order) (omega arith);
+  next = omega arith;
+  some = λ more. absurd (more refl);
+  room = omega arith;
+  spelled = omega arith;
+  owed = λ some. absurd (omega (arith, some, none, f.size, f.sealed));
+  clear = λ _. refl;
 }
 
 -- the same for an open ledger that is known by equations
@@ -407,3 +385,8 @@ module _ (tells : Bool) (k0 k1 : CommitterState) (is : k0 ≡ k1) (disks : Pair)
 
   pub ended_at : (t : World) (f : History → History) (d : History → List Due) (end : CommitErr) → EndsOnTheWay tells (world k0 disks sink) f d end t → EndsOnTheWay tells (world k1 disks sink) f d end t
   ended_at t f d end x = subst (λ k. EndsOnTheWay tells (world k disks sink) f d end t) is x
+
+-- .. that a call leads to
+module _ (tells : Bool) (w : World) (k0 k1 : CommitterState) (is : k0 ≡ k1) (disks : Pair) (sink : SinkState) where
+  pub goes_to : (f : History → History) (d : History → List Due) → Goes tells w f d (world k1 disks sink) → Goes tells w f d (world k0 disks sink)
+  goes_to f d x = subst (λ k. Goes tells w f d (world k disks sink)) (sym is) x

@@ -47,10 +47,10 @@ use Rattle.block_file.specs.Writing.{record_with}
 use Rattle.ledger_open.specs.Places.{places_from, AreInOrder}
 use Rattle.ledger_open.specs.Standing.{floor_behind}
 use Rattle.block_file.specs.declared.place.PlaceAt.{PlaceAt}
-use Rattle.batch_committer.specs.Steps.{HasParts, IsGathered, Gathers, Judged}
-use Rattle.batch_committer.specs.World.{CommitterState, Keeps, sealed_part}
+use Rattle.batch_committer.specs.Steps.{HasParts, IsGathered, Gathers, Judged, KeepsFile}
+use Rattle.batch_committer.specs.World.{CommitterState, Keeps}
 use Rattle.batch_committer.proofs.Closing.{next_rest, places_in_more, body_len}
-use Rattle.batch_committer.proofs.Ending.{located_same}
+use Rattle.batch_committer.proofs.Ending.{group_same, located_same}
 use Rattle.batch_committer.proofs.Ordering.{order_then}
 
 -- ---- what came of a job
@@ -216,13 +216,14 @@ last_next k h journal s =
 -- the journal was gathered
 pub gathered_by : (old new : CommitterState) (header content : List ℕ) (given : List Approval) (place : PlaceAt) (journal : Entry) → header ≡ spelling journal.header → HasWidths journal.header → length content ≡ journal.header.content_len → journal.content ≡ content
     → journal.who ≡ who_of given → new.body ≡ old.body ++ record_with header content (who_of given) → new.places ≡ old.places ++ place ∷ []
-    → place ≡ place_of_lengths (body_from old.gate + length old.body) (length content) (length (who_of given)) → IsGathered old new journal
-gathered_by old new header content given place journal header_is widths len content_is who_is body places place_is =
-    let at = body_from old.gate + length old.body in
+    → place ≡ place_of_lengths (body_from old.next + length old.body) (length content) (length (who_of given)) → new.before ≡ old.before → IsGathered old new journal
+gathered_by old new header content given place journal header_is widths len content_is who_is body places place_is before =
+    let at = body_from old.next + length old.body in
     let spelled = spelling journal.header in record {
       widths = widths;
       body = body ∙ ap (λ (l : List ℕ). old.body ++ record_with l content (who_of given)) header_is ∙ ap (λ (l : List ℕ). old.body ++ record_with spelled l (who_of given)) (sym content_is)
           ∙ ap (λ (l : List ℕ). old.body ++ record_with spelled journal.content l) (sym who_is);
+      before = before;
       places = places ∙ ap (λ p. old.places ++ p ∷ []) (place_is ∙ ap (λ (n : ℕ). place_of_lengths at n (length (who_of given))) len ∙ ap (λ (l : List ℕ). place_of_lengths at journal.header.content_len (length l)) (sym who_is));
     }
 
@@ -233,38 +234,51 @@ gathered_at k0 k1 new journal is g = subst (λ k. IsGathered k new journal) is g
 
 -- with the place of a record more
 pub order_more : (old : CommitterState) (tail : ℕ) (gathered : List ℕ) (all_places : List PlaceAt) (place : PlaceAt) (header content : List ℕ) (given : List Approval) → length header ≡ HEADER_LEN
-    → place ≡ place_of_lengths (body_from old.gate + length old.body) (length content) (length (who_of given)) → tail ≡ old.gate → gathered ≡ old.body ++ record_with header content (who_of given) → all_places ≡ old.places ++ place ∷ []
-    → AreInOrder 64 (body_from old.gate + length old.body) old.places → AreInOrder 64 (body_from tail + length gathered) all_places
+    → place ≡ place_of_lengths (body_from old.next + length old.body) (length content) (length (who_of given)) → tail ≡ old.next → gathered ≡ old.body ++ record_with header content (who_of given) → all_places ≡ old.places ++ place ∷ []
+    → AreInOrder 64 (body_from old.next + length old.body) old.places → AreInOrder 64 (body_from tail + length gathered) all_places
 order_more old tail gathered all_places place header content given wide is place_is body places = λ all.
     let who = who_of given in
     let four : length (to_be_bytes w32 (length who)) ≡ 4 = refl in
     let size : length gathered ≡ length old.body + (length header + 4 + length content + length who) =
     omega (arith, ap length body, four, length-append old.body (record_with header content who), length-append header (to_be_bytes w32 (length who) ++ (content ++ who)), length-append (to_be_bytes w32 (length who)) (content ++ who), length-append content who) in
-    let from = body_from old.gate + length old.body in
+    let from = body_from old.next + length old.body in
     let end = body_from tail + length gathered in
     let at = ap (λ (p : PlaceAt). p.content_at) is in
     let len = ap (λ (p : PlaceAt). p.content_len) is in
     subst (AreInOrder 64 end) (sym places) (order_then 64 from end old.places (place ∷ []) all (omega (arith, at), omega (arith, at, len, place_is, size, wide)))
 
 -- .. by a value that is known by an equation
-pub order_at : (k0 k1 : CommitterState) → k0 ≡ k1 → AreInOrder 64 (body_from k1.gate + length k1.body) k1.places → AreInOrder 64 (body_from k0.gate + length k0.body) k0.places
-order_at k0 k1 is all = subst (λ (k : CommitterState). AreInOrder 64 (body_from k.gate + length k.body) k.places) (sym is) all
+pub order_at : (k0 k1 : CommitterState) → k0 ≡ k1 → AreInOrder 64 (body_from k1.next + length k1.body) k1.places → AreInOrder 64 (body_from k0.next + length k0.body) k0.places
+order_at k0 k1 is all = subst (λ (k : CommitterState). AreInOrder 64 (body_from k.next + length k.body) k.places) (sym is) all
 
 -- ---- what is kept after a job
 
 pub gathers_kept : (k : CommitterState) (h : History) → Keeps k h → Gathers k h
-gathers_kept k h p = record { serves = p.serves; limits = p.limits; floor = p.floor; body = p.body; next = p.next; gathered = p.gathered; located = p.located }
+gathers_kept k h p = record { serves = p.serves; limits = p.limits; floor = p.floor; body = p.body; next = p.next; gathered = p.gathered; group = p.group; located = p.located }
+
+-- no journal was gathered
+pub record IsUngrown (old new : CommitterState) : Type 0 where
+  pub body : new.body ≡ old.body
+  pub places : new.places ≡ old.places
+  pub gate : new.gate ≡ old.gate
+  pub next : new.next ≡ old.next
+  pub ended : new.ended ≡ old.ended
+  pub before : new.before ≡ old.before
+
+pub ungrown : {k : CommitterState} {book : books.Kept} → IsUngrown k (record k { book = book })
+ungrown {k} {book} = record { body = refl; places = refl; gate = refl; next = refl; ended = refl; before = refl }
 
 -- by another value where nothing that counts has changed
-gathers_same : (old new : CommitterState) (h : History) → new.book ≡ old.book → new.body ≡ old.body → new.places ≡ old.places → new.gate ≡ old.gate → Gathers old h → Gathers new h
-gathers_same old new h book body places place g = record {
+gathers_same : (old new : CommitterState) (h : History) → new.book ≡ old.book → IsUngrown old new → Gathers old h → Gathers new h
+gathers_same old new h book u g = record {
   serves = subst (λ b. Serves b h) (sym book) g.serves;
   limits = ap (λ (b : books.Kept). b.limits) book ∙ g.limits;
   floor = ap (λ (b : books.Kept). b.floor) book ∙ g.floor;
-  body = body ∙ g.body;
+  body = u.body ∙ g.body;
   next = g.next;
   gathered = g.gathered;
-  located = located_same old new h (ap (λ (b : books.Kept). b.floor) book) places place g.located;
+  group = group_same {old = old} {new = new} {h = h} {g = h} refl u.ended u.before g.group;
+  located = located_same old new h g.group.stored g.group.blocks (ap (λ (b : books.Kept). b.floor) book) u.places u.gate u.next g.located;
 }
 
 gather_more : (es : List Entry) (e : Entry) → AllGather es → gathers e.header.kind ≡ true → AllGather (es ++ e ∷ [])
@@ -281,9 +295,9 @@ waits_so job waiting e all none is more = by (closes_after job) refl where
   by false other = gather_more waiting e (all other) (is other)
 
 -- with a journal more
-pub gathers_more : (old mid new : CommitterState) (h : History) (journal : Entry) → Keeps old h → length journal.content ≡ journal.header.content_len → length journal.who ≤ WHO_LIMIT → (length (h.waiting ++ journal ∷ []) ≢ 1 → AllGather (h.waiting ++ journal ∷ [])) → Serves new.book (with_waiting (Some journal) h) → new.book.limits ≡ old.book.limits → new.book.floor ≡ old.book.floor → mid.body ≡ old.body → mid.places ≡ old.places → mid.gate ≡ old.gate
-    → new.gate ≡ old.gate → IsGathered mid new journal → Gathers new (with_waiting (Some journal) h)
-gathers_more old mid new h journal p len few shape serves limits floor body places place new_place g =
+pub gathers_more : (old mid new : CommitterState) (h : History) (journal : Entry) → Keeps old h → length journal.content ≡ journal.header.content_len → length journal.who ≤ WHO_LIMIT → (length (h.waiting ++ journal ∷ []) ≢ 1 → AllGather (h.waiting ++ journal ∷ [])) → Serves new.book (with_waiting (Some journal) h) → new.book.limits ≡ old.book.limits → new.book.floor ≡ old.book.floor → IsUngrown old mid
+    → KeepsFile mid new → IsGathered mid new journal → Gathers new (with_waiting (Some journal) h)
+gathers_more old mid new h journal p len few shape serves limits floor u file g =
     let next = last_next new.book h journal serves in
     let entry : IsEntry (sealed_size h + length h.waiting) journal = record {
       jsn = next.jsn ∙ length-append (journals_of h.closed) h.waiting;
@@ -296,19 +310,22 @@ gathers_more old mid new h journal p len few shape serves limits floor body plac
       serves = serves;
       limits = limits ∙ p.limits;
       floor = floor ∙ p.floor;
-      body = g.body ∙ ap (λ (l : List ℕ). l ++ record_bytes journal) (body ∙ p.body) ∙ ap (λ (l : List ℕ). body_of h.waiting ++ l) (sym (append-nil (record_bytes journal))) ∙ sym (flat_map-append record_bytes h.waiting (journal ∷ []));
+      body = g.body ∙ ap (λ (l : List ℕ). l ++ record_bytes journal) (u.body ∙ p.body) ∙ ap (λ (l : List ℕ). body_of h.waiting ++ l) (sym (append-nil (record_bytes journal))) ∙ sym (flat_map-append record_bytes h.waiting (journal ∷ []));
       next = from_more (sealed_size h) h.waiting (journal ∷ []) p.next (entry, tt);
       gathered = shape;
+      group = group_same {old = old} {new = new} {h = h} {g = with_waiting (Some journal) h} refl (file.ended ∙ u.ended) (g.before ∙ u.before) p.group;
       located =
           let parts = p.located.parts in
-          let before = places_from (floor_behind (sealed_part h) parts.gone) parts.kept in record {
+          let blocks = p.group.blocks in
+          let before = places_from (floor_behind (history p.group.stored []) parts.gone) (parts.kept ++ blocks) in record {
             parts = record { gone = parts.gone; kept = parts.kept; are = parts.are; at = parts.at ∙ sym floor };
-            places = g.places ∙ ap (λ (l : List PlaceAt). l ++ place_at (body_from mid.gate + length mid.body) journal ∷ []) (places ∙ p.located.places)
-                ∙ ap (λ (n : ℕ). (before ++ places_in (body_from old.gate) h.waiting) ++ place_at n journal ∷ []) (omega (arith, place, ap length body, ap length p.body, body_len (sealed_size h) h.waiting p.next))
-                ∙ append_assoc before (places_in (body_from old.gate) h.waiting) (place_at (body_from old.gate + sum_by record_len h.waiting) journal ∷ [])
-                ∙ ap (λ (l : List PlaceAt). before ++ l) (sym (places_in_more (body_from old.gate) h.waiting journal))
-                ∙ ap (λ (n : ℕ). before ++ places_in (body_from n) (h.waiting ++ journal ∷ [])) (sym new_place);
-            tail = new_place ∙ p.located.tail;
+            places = g.places ∙ ap (λ (l : List PlaceAt). l ++ place_at (body_from mid.next + length mid.body) journal ∷ []) (u.places ∙ p.located.places)
+                ∙ ap (λ (n : ℕ). (before ++ places_in (body_from old.next) h.waiting) ++ place_at n journal ∷ []) (omega (arith, u.next, ap length u.body, ap length p.body, body_len (sealed_size h) h.waiting p.next))
+                ∙ append_assoc before (places_in (body_from old.next) h.waiting) (place_at (body_from old.next + sum_by record_len h.waiting) journal ∷ [])
+                ∙ ap (λ (l : List PlaceAt). before ++ l) (sym (places_in_more (body_from old.next) h.waiting journal))
+                ∙ ap (λ (n : ℕ). before ++ places_in (body_from n) (h.waiting ++ journal ∷ [])) (sym (file.next ∙ u.next));
+            tail = file.gate ∙ u.gate ∙ p.located.tail;
+            next = file.next ∙ u.next ∙ p.located.next;
           };
     }
 
@@ -319,25 +336,25 @@ real_applies stamp old new h job o is a = subst (λ limits. Applies limits stamp
 
 -- nothing was placed: what was told is due
 pub judged_same_kept : (old new : CommitterState) (h : History) (step : Step) (job : Job) (o : Outcome) (answer : Answer) → Keeps old h → Applies old.book.limits None h job o new.book → PlacesNothing o → (PlacesNothing o → new.book ≡ old.book)
-    → new.body ≡ old.body → new.places ≡ old.places → new.gate ≡ old.gate → answer ≡ answer_for h step o → stamp_of step ≡ None → Judged new h step job answer
-judged_same_kept old new h step job o answer p applies none book body places place is unstamped =
+    → IsUngrown old new → answer ≡ answer_for h step o → stamp_of step ≡ None → Judged new h step job answer
+judged_same_kept old new h step job o answer p applies none book u is unstamped =
     let a = real_applies None old.book new.book h job o p.limits applies in record {
       answer_is = is ∙ ap (answer_for h step) a.outcome_is ∙ ap (λ o. answer_for h step (outcome real_limits o h job)) (sym unstamped);
-      gathers = subst (λ o. Gathers new (with_job real_limits o h job)) (sym unstamped) (subst (Gathers new) (sym (same_job None real_limits h job o none a.outcome_is)) (gathers_same old new h (book none) body places place (gathers_kept old h p)));
+      gathers = subst (λ o. Gathers new (with_job real_limits o h job)) (sym unstamped) (subst (Gathers new) (sym (same_job None real_limits h job o none a.outcome_is)) (gathers_same old new h (book none) u (gathers_kept old h p)));
     }
 
 -- a journal was placed
 pub judged_placed : (stamp : Option Stamp) (old mid new : CommitterState) (h : History) (step : Step) (job : Job) (o : Outcome) (placed : PlacedJournal) (answer : Answer) → Keeps old h → (closes_after job ≡ false → AllGather h.waiting) → (closes_after job ≡ true → h.waiting ≡ []) → fits_job job ≡ true → Applies old.book.limits stamp h job o new.book → new.book.limits ≡ old.book.limits → new.book.floor ≡ old.book.floor → o ≡ came.Placed placed
     → ((journal : Entry) (content : List ℕ) (given : List Approval) → HasParts job content given → placed.header ≡ spelling journal.header → HasWidths journal.header → length content ≡ journal.header.content_len → journal.content ≡ content → journal.who ≡ who_of given → IsGathered mid new journal)
-    → mid.body ≡ old.body → mid.places ≡ old.places → mid.gate ≡ old.gate → new.gate ≡ old.gate → answer ≡ answer_for h step o → stamp_of step ≡ stamp → Judged new h step job answer
-judged_placed stamp old mid new h step job o placed answer p all none fits applies limits floor is gathered body places place new_place answer_is stamped =
+    → IsUngrown old mid → KeepsFile mid new → answer ≡ answer_for h step o → stamp_of step ≡ stamp → Judged new h step job answer
+judged_placed stamp old mid new h step job o placed answer p all none fits applies limits floor is gathered u file answer_is stamped =
     let a = real_applies stamp old.book new.book h job o p.limits applies in
     let w = was_placed stamp real_limits h job placed (sym is ∙ a.outcome_is) in
     let m = is_made stamp h job w.journal fits w.placed_is in
     let s : Serves new.book (with_waiting (Some w.journal) h) = subst (Serves new.book) w.after a.serves in
     let g = gathered w.journal m.content m.given m.parts w.header_is (a.widths placed w.journal is w.placed_is) (ap length (sym m.content_is) ∙ m.len) m.content_is m.who_is in record {
       answer_is = answer_is ∙ ap (answer_for h step) a.outcome_is ∙ ap (λ o. answer_for h step (outcome real_limits o h job)) (sym stamped);
-      gathers = subst (λ o. Gathers new (with_job real_limits o h job)) (sym stamped) (subst (Gathers new) (sym w.after) (gathers_more old mid new h w.journal p m.len m.few (waits_so job h.waiting w.journal all none m.gathers_is) s limits floor body places place new_place g));
+      gathers = subst (λ o. Gathers new (with_job real_limits o h job)) (sym stamped) (subst (Gathers new) (sym w.after) (gathers_more old mid new h w.journal p m.len m.few (waits_so job h.waiting w.journal all none m.gathers_is) s limits floor u file g));
     }
 
 -- a job that asks for something ends the open block first
@@ -376,8 +393,8 @@ on_ok_then (Err error) f x = tt
 -- .. by a value that is known by an equation, and what is due came behind
 pub judged_dues : (k0 k1 : CommitterState) (ds : List Due) (g : History) (step : Step) (job : Job) (answer : Answer) → k1 ≡ k0 → Judged k0 g step job answer → Judged (record k1 { dues = ds }) g step job answer
 judged_dues k0 k1 ds g step job answer is j =
-    let m = subst (λ k. Judged k g step job answer) (sym is) j in
-    let x = m.gathers in record {
+    let f = with_job real_limits (stamp_of step) g job in
+    let m = subst (λ k. Judged k g step job answer) (sym is) j in record {
       answer_is = m.answer_is;
-      gathers = record { serves = x.serves; limits = x.limits; floor = x.floor; body = x.body; next = x.next; gathered = x.gathered; located = record { parts = x.located.parts; places = x.located.places; tail = x.located.tail } };
+      gathers = gathers_same k1 (record k1 { dues = ds }) f refl (record { body = refl; places = refl; gate = refl; next = refl; ended = refl; before = refl }) m.gathers;
     }

@@ -4,10 +4,13 @@ pub mod LastBlock
 pub mod Spelling
 pub mod Ordering
 pub mod Closing
+pub mod Grouping
+pub mod Grouped
 pub mod Finishing
 pub mod OpenEnds
 pub mod Opening
 pub mod Ending
+pub mod Settling
 pub mod GivenUp
 pub mod Committing
 pub mod ReadLaws

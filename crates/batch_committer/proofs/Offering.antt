@@ -1,17 +1,17 @@
 -- A job is taken: the open block may end before it and after it.
 use Rattle.ledger_open.specs.Heads.{edition_of}
 use Rattle.std.specs.Prelude.{◌||◌, Bool, true, false, nat_le, Result, Ok, Err, IfErr}
-use Rattle.std.proofs.Common.{◌≡◌, ◌⊎◌, inl, inr, ℕ, ◌<◌, ◌≤◌, cond, List, [], ◌∷◌, ◌++◌, length, refl, ap, sym, subst, ◌∙◌, arith}
+use Rattle.std.proofs.Common.{◌≡◌, ℕ, ◌<◌, ◌≤◌, cond, List, [], ◌∷◌, ◌++◌, length, take, drop, refl, ap, sym, subst, ◌∙◌, arith, append_assoc, append-nil, length-append}
 use Rattle.std.proofs.KnownBytes.{Appends-nil}
 use Rattle.std.proofs.lemmas.Bool.{le-leb, lt-leb}
-use Rattle.std.proofs.lemmas.List.{nil_from_length}
+use Rattle.std.proofs.lemmas.List.{take-append-le, drop-append-le}
 use Rattle.ledger_bytes.specs.declared.limits.TheConstants.{BLOCK_LIMIT}
 use Rattle.journal_record.specs.Entry.{Entry}
 use Rattle.ledger_io.specs.Outside.{SinkState}
 use Rattle.ledger_model.specs.Anchors.{stamp_of}
-use Rattle.ledger_model.specs.Dues.{due_of, AllWaiting, IsWaiting}
+use Rattle.ledger_model.specs.Dues.{due_of, due_lines, AllIn, AllWaiting, IsWaiting}
 use Rattle.ledger_model.specs.Growing.{Grows}
-use Rattle.ledger_model.specs.History.{History, history, close}
+use Rattle.ledger_model.specs.History.{History, history, journals, journals_of, close}
 use Rattle.ledger_model.specs.Limits.{real_limits}
 use Rattle.ledger_model.specs.Outcomes.{with_job}
 use Rattle.ledger_model.specs.Rules.{closes_before, closes_after, judged_at, settled_history, after_job}
@@ -20,15 +20,16 @@ use Rattle.ledger_model.specs.Texts.{answer_to}
 use Rattle.ledger_model.specs.declared.answer.Answer.{Answer}
 use Rattle.ledger_model.specs.declared.due.Due.{Due}
 use Rattle.ledger_model.specs.declared.job.Job.{Job}
-use Rattle.ledger_model.proofs.GrowLaws.{grows_settled, grows_with, grows_after, close_settled, settled_none}
-use Rattle.ledger_model.proofs.WaitLaws.{waits_job, waits_closed, all_still_waiting, waiting-append, answer_waits}
+use Rattle.ledger_model.proofs.GrowLaws.{grows_settled, grows_then, grows_with, grows_after, settled_none}
+use Rattle.ledger_model.proofs.WaitLaws.{Waits, waits_job, waits_closed, all_still_waiting, waiting-append, answer_waits}
 use Rattle.ledger_book.specs.Books.{Serves}
 use Rattle.ledger_book.proofs.OpenLaws.{opens_empty}
 use Rattle.twin_file.specs.Twin.{open_of}
 use Rattle.batch_committer.specs.Steps.{due_by, Judged, KeepsFile, HasGrown, StaysInOrder}
 use Rattle.batch_committer.specs.Read.{WereRead, NoneFailed, ReadingEnds}
-use Rattle.batch_committer.specs.World.{CommitterState, World, Pair, world, ReadsAsLeft, Fits, HasRoom, IsCleanFor, Holds, Goes, EndsOnTheWay, sealed_part}
+use Rattle.batch_committer.specs.World.{CommitterState, World, Pair, world, ReadsAsLeft, Fits, HasRoom, Owes, IsCleanFor, Holds, Goes, EndsOnTheWay}
 use Rattle.batch_committer.specs.declared.failure.CommitErr.{CommitErr}
+use Rattle.batch_committer.proofs.Grouped.{stored_one, stored_stays}
 use Rattle.batch_committer.proofs.ReadLaws.{goes_read, read_ended}
 use Rattle.batch_committer.proofs.WayLaws.{goes_then, ended_then, goes_as, ended_as, ended_wider, goes_same}
 
@@ -86,36 +87,54 @@ module _ (tells : Bool) (w m n t : World) (step : Step) (job : Job) where
 abbrev due_at : Step → Answer → Due
 due_at step answer = record { lane = step.lane; index = step.index; answer = answer }
 
--- the blocks that have ended are the same
-sealed_with : (g : History) (step : Step) (job : Job) → sealed_part (with_job real_limits (stamp_of step) g job) ≡ sealed_part g
-sealed_with g step job = ap (λ (bs : List (List Entry)). history bs []) (waits_closed g (with_job real_limits (stamp_of step) g job) (waits_job g step job))
+-- what is due with one more
+owes_more : (k new : CommitterState) (g f : History) (due : Due) → Owes k g → Waits g f → IsWaiting f due.answer → new.dues ≡ k.dues ++ due ∷ [] → new.spelled ≡ k.spelled → new.lines ≡ k.lines → Owes new f
+owes_more k new g f due o waits answered dues spelled lines =
+    let first : take new.spelled new.dues ≡ take k.spelled k.dues = ap (λ (n : ℕ). take n new.dues) spelled ∙ ap (take k.spelled) dues ∙ take-append-le k.spelled k.dues (due ∷ []) o.few in
+    let rest : drop new.spelled new.dues ≡ drop k.spelled k.dues ++ due ∷ [] = ap (λ (n : ℕ). drop n new.dues) spelled ∙ ap (drop k.spelled) dues ∙ drop-append-le k.spelled k.dues (due ∷ []) o.few in record {
+      few = omega (arith, o.few, spelled, ap length dues, length-append k.dues (due ∷ []));
+      told = subst (λ (bs : List (List Entry)). AllIn bs (take new.spelled new.dues)) (sym (waits_closed g f waits)) (subst (AllIn g.closed) (sym first) o.told);
+      lines = λ x y none. lines ∙ o.lines x (grows_then g f x (grows_waits g f waits) y) none ∙ ap (due_lines x) (sym first);
+      waits = subst (AllWaiting f) (sym rest) (waiting-append f (drop k.spelled k.dues) (due ∷ []) (all_still_waiting g f (drop k.spelled k.dues) waits o.waits) (answered, tt));
+    } where
+      grows_waits : (g f : History) → Waits g f → Grows g f
+      grows_waits g f w = record {
+        more = w.more;
+        journals_are = ap journals w.is ∙ sym (append_assoc (journals_of g.closed) g.waiting w.more);
+        blocks = [];
+        closed_are = ap (λ (k : History). k.closed) w.is ∙ sym (append-nil g.closed);
+      }
 
-pub judged_goes : (tells : Bool) (w : World) (k : CommitterState) (step : Step) (job : Job) (answer : Answer) → k.gate ≡ w.kept.gate → k.in_a ≡ w.kept.in_a → k.dues ≡ w.kept.dues ++ due_at step answer ∷ []
+pub judged_goes : (tells : Bool) (w : World) (k : CommitterState) (step : Step) (job : Job) (answer : Answer) → KeepsFile w.kept k → k.dues ≡ w.kept.dues ++ due_at step answer ∷ [] → k.spelled ≡ w.kept.spelled → k.lines ≡ w.kept.lines
     → (closes_before job ≡ true → (h : History) → Serves w.kept.book h → h.waiting ≡ [])
     → ((g : History) → Holds tells w g → (closes_before job ≡ true → g.waiting ≡ []) → Judged k g step job answer)
     → Goes tells w (λ g. with_job real_limits (stamp_of step) g job) (λ g. due_by g step job ∷ []) (world k w.disks w.sink)
-judged_goes tells w k step job answer place in_a dues settled judged = record {
+judged_goes tells w k step job answer file dues spelled lines settled judged = record {
   holds = λ g p.
       let f = with_job real_limits (stamp_of step) g job in
       let j = judged g p (λ closes. settled closes g p.keeps.serves) in
-      let all : AllWaiting f (w.kept.dues ++ due_at step answer ∷ []) =
-      waiting-append f w.kept.dues (due_at step answer ∷ []) (all_still_waiting g f w.kept.dues (waits_job g step job) p.keeps.dues) (subst (IsWaiting f) (sym j.answer_is) (answer_waits g step job (λ closes. settled closes g p.keeps.serves)), tt) in record {
+      let stays = stored_one w.kept k g f p.keeps.group j.gathers.group (waits_closed g f (waits_job g step job)) file.ended in record {
         told = p.told;
         keeps = record {
           serves = j.gathers.serves;
           limits = j.gathers.limits;
           floor = j.gathers.floor;
-          dues = subst (AllWaiting f) (sym dues) all;
+          dues = owes_more w.kept k g f (due_at step answer) p.keeps.dues (waits_job g step job) (subst (IsWaiting f) (sym j.answer_is) (answer_waits g step job (λ closes. settled closes g p.keeps.serves))) dues spelled lines;
           body = j.gathers.body;
           next = j.gathers.next;
           gathered = j.gathers.gathered;
+          group = j.gathers.group;
           located = j.gathers.located;
         };
-        disks = subst (λ h. IsCleanFor k.in_a k.gate h w.disks.a.bytes w.disks.b.bytes) (sym (sealed_with g step job))
-            (subst (λ v. IsCleanFor v k.gate (sealed_part g) w.disks.a.bytes w.disks.b.bytes) (sym in_a)
-            (subst (λ at. IsCleanFor w.kept.in_a at (sealed_part g) w.disks.a.bytes w.disks.b.bytes) (sym place) p.disks));
+        disks = subst (λ (bs : List (List Entry)). IsCleanFor k.in_a k.gate (history bs []) w.disks.a.bytes w.disks.b.bytes) (sym stays)
+            (subst (λ v. IsCleanFor v k.gate (history p.keeps.group.stored []) w.disks.a.bytes w.disks.b.bytes) (sym file.in_a)
+            (subst (λ at. IsCleanFor w.kept.in_a at (history p.keeps.group.stored []) w.disks.a.bytes w.disks.b.bytes) (sym file.gate) p.disks));
       };
   grows = λ g p. grows_with real_limits (stamp_of step) g job;
+  stays = λ g p.
+      let f = with_job real_limits (stamp_of step) g job in
+      let y = (judged g p (λ closes. settled closes g p.keeps.serves)).gathers.group in
+      stored_stays w.kept k g f p.keeps.group y (stored_one w.kept k g f p.keeps.group y (waits_closed g f (waits_job g step job)) file.ended);
   sofar = [];
   appended = Appends-nil w.sink.held;
   writes = λ g p. record {
@@ -142,13 +161,19 @@ unjudged_ended tells k t old new sink step job end read e =
 
 -- ---- sizes
 
-pub fits_gathered : (tells : Bool) (old new : CommitterState) (disks : Pair) (sink : SinkState) → Fits tells (world old disks sink) → HasRoom old → HasGrown old new → StaysInOrder old new → KeepsFile old new → Fits tells (world new disks sink)
-fits_gathered tells old new disks sink f room grown order file = record {
+pub fits_gathered : (tells : Bool) (old new : CommitterState) (disks : Pair) (sink : SinkState) → Fits tells (world old disks sink) → HasRoom old → HasGrown old new → StaysInOrder old new → KeepsFile old new → new.spelled ≡ old.spelled → length new.dues ≡ length old.dues + 1 → Fits tells (world new disks sink)
+fits_gathered tells old new disks sink f room grown order file spelled more = record {
   reads = subst (λ v. ReadsAsLeft tells new.gate (open_of v disks.a disks.b)) (sym file.in_a) (subst (λ at. ReadsAsLeft tells at (open_of old.in_a disks.a disks.b)) (sym file.gate) f.reads);
   edition = λ told. file.edition ∙ f.edition told ∙ sym (ap (λ v. edition_of (open_of v disks.a disks.b).bytes.seen) file.in_a);
   copy = file.copy ∙ f.copy;
   few = omega (arith, room.0, grown.0, grown.1);
   order = order f.order;
+  next = omega (arith, f.next, file.next, file.gate, ap length grown.2);
+  some = λ ended. subst (λ (l : List ℕ). 1 ≤ length l) (sym grown.2) (f.some (λ none. ended (file.ended ∙ none)));
+  room = omega (arith, f.room, file.ended);
+  spelled = omega (arith, f.spelled, spelled, more);
+  owed = λ _. omega (arith, f.spelled, spelled, more);
+  clear = λ none. absurd (omega (arith, more, ap length none));
 }
 
 pub room_empty : (k : CommitterState) → k.book.size ≡ k.book.sealed → HasRoom k
@@ -182,23 +207,22 @@ settled_full job h full = sym (ap (λ v. cond (closes_after job || v) (close h) 
 settled_room : (job : Job) (h : History) → closes_after job ≡ false → length h.waiting < BLOCK_LIMIT → h ≡ settled_history job h
 settled_room job h other room = sym (ap (λ v. cond (v || nat_le BLOCK_LIMIT (length h.waiting)) (close h) h) other ∙ ap (λ v. cond v (close h) h) (lt-leb BLOCK_LIMIT (length h.waiting) room))
 
--- none waits, or as many as a block may have
-abbrev pub IsDue : ℕ → Type 0
-IsDue count = (count ≡ 0) ⊎ (BLOCK_LIMIT ≤ count)
+-- nothing ends where none waits
+settled_idle : (job : Job) (h : History) → h.waiting ≡ [] → h ≡ settled_history job h
+settled_idle job h none = settled_none h job none
 
-pub due_count : (count waiting : ℕ) → count ≡ waiting → (count ≡ 0) ⊎ ((count ≡ 0 → ⊥) × (BLOCK_LIMIT ≤ count)) → IsDue waiting
-due_count count waiting is (inl none) = inl (sym is ∙ none)
-due_count count waiting is (inr full) = inr (omega (arith, is, full.1))
+pub idle_goes : (tells : Bool) (w t : World) (job : Job) → ((h : History) → Serves w.kept.book h → h.waiting ≡ []) → Goes tells w (λ h. h) (λ h. []) t → Goes tells w (settled_history job) (λ h. []) t
+idle_goes tells w t job none x = goes_as tells w t (λ h. h) (settled_history job) (λ h. []) (λ h. []) (λ h p. settled_idle job h (none h p.keeps.serves)) (λ h p. refl) x
 
-settled_due : (job : Job) (h : History) → IsDue (length h.waiting) → close h ≡ settled_history job h
-settled_due job h (inl none) = let is : h.waiting ≡ [] = nil_from_length h.waiting none in sym (close_settled h is) ∙ settled_none h job is
-settled_due job h (inr full) = settled_full job h full
+pub idle_ended : (tells : Bool) (w t : World) (job : Job) (end : CommitErr) → ((h : History) → Serves w.kept.book h → h.waiting ≡ []) → EndsOnTheWay tells w (λ h. h) (λ h. []) end t → EndsOnTheWay tells w (settled_history job) (λ h. []) end t
+idle_ended tells w t job end none x = ended_as tells w t (λ h. h) (settled_history job) (λ h. []) (λ h. []) end (λ h p. settled_idle job h (none h p.keeps.serves)) (λ h p. refl) x
 
-pub due_goes : (tells : Bool) (w t : World) (job : Job) → ((h : History) → Serves w.kept.book h → IsDue (length h.waiting)) → Goes tells w close (λ h. []) t → Goes tells w (settled_history job) (λ h. []) t
-due_goes tells w t job due x = goes_as tells w t close (settled_history job) (λ h. []) (λ h. []) (λ h p. settled_due job h (due h p.keeps.serves)) (λ h p. refl) x
+-- the block that is full ends
+pub full_goes : (tells : Bool) (w t : World) (job : Job) → ((h : History) → Serves w.kept.book h → BLOCK_LIMIT ≤ length h.waiting) → Goes tells w close (λ h. []) t → Goes tells w (settled_history job) (λ h. []) t
+full_goes tells w t job full x = goes_as tells w t close (settled_history job) (λ h. []) (λ h. []) (λ h p. settled_full job h (full h p.keeps.serves)) (λ h p. refl) x
 
-pub due_ended : (tells : Bool) (w t : World) (job : Job) (end : CommitErr) → ((h : History) → Serves w.kept.book h → IsDue (length h.waiting)) → EndsOnTheWay tells w close (λ h. []) end t → EndsOnTheWay tells w (settled_history job) (λ h. []) end t
-due_ended tells w t job end due x = ended_as tells w t close (settled_history job) (λ h. []) (λ h. []) end (λ h p. settled_due job h (due h p.keeps.serves)) (λ h p. refl) x
+pub full_ended : (tells : Bool) (w t : World) (job : Job) (end : CommitErr) → ((h : History) → Serves w.kept.book h → BLOCK_LIMIT ≤ length h.waiting) → EndsOnTheWay tells w close (λ h. []) end t → EndsOnTheWay tells w (settled_history job) (λ h. []) end t
+full_ended tells w t job end full x = ended_as tells w t close (settled_history job) (λ h. []) (λ h. []) end (λ h p. settled_full job h (full h p.keeps.serves)) (λ h p. refl) x
 
 pub room_goes : (tells : Bool) (w : World) (job : Job) → closes_after job ≡ false → ((h : History) → Serves w.kept.book h → length h.waiting < BLOCK_LIMIT) → Goes tells w (settled_history job) (λ h. []) w
 room_goes tells w job other few = goes_as tells w w (λ h. h) (settled_history job) (λ h. []) (λ h. []) (λ h p. settled_room job h other (few h p.keeps.serves)) (λ h p. refl) (goes_same tells w)

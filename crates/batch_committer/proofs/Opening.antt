@@ -10,7 +10,7 @@ use Rattle.ledger_disk.specs.Disk.{DiskState, State, settled_state}
 use Rattle.ledger_io.specs.Outside.{SinkState}
 use Rattle.ledger_model.proofs.LawfulLaws.{some_journal}
 use Rattle.ledger_model.specs.Genesis.{HasKeys, genesis_header, new_ledger}
-use Rattle.ledger_model.specs.History.{History, journals, journals_of, size, point}
+use Rattle.ledger_model.specs.History.{History, history, journals, journals_of, size, point}
 use Rattle.ledger_model.specs.Lawful.{AllGather, IsLawful}
 use Rattle.ledger_model.specs.Targets.{is_hidden}
 use Rattle.ledger_model.specs.Limits.{real_limits}
@@ -35,8 +35,10 @@ use Rattle.ledger_open.proofs.KnownLaws.{same_self}
 use Rattle.ledger_open.proofs.OrderLaws.{order_low}
 use Rattle.ledger_open.proofs.CarryLaws.{reopened_tidy}
 use Rattle.batch_committer.specs.Opened.{kept_from, IsOpened, IsQuietFor}
-use Rattle.batch_committer.specs.World.{World, Pair, world, Fits, HasRoom, IsCleanFor, Holds, sealed_part}
-use Rattle.batch_committer.proofs.Closing.{clean_image, clean_length, length_clean, tail_at, tails_kept, sealed_same}
+use Rattle.batch_committer.specs.World.{World, Pair, world, Fits, HasRoom, IsCleanFor, Holds, sealed_part, stored_part}
+use Rattle.batch_committer.proofs.Closing.{clean_image, clean_length, length_clean, tail_at, sealed_same}
+use Rattle.batch_committer.proofs.Finishing.{gathers_none}
+use Rattle.batch_committer.proofs.Grouped.{stored_split, tails_held, blocks_held}
 use Rattle.batch_committer.proofs.OpenEnds.{opened_ends}
 use Rattle.batch_committer.proofs.Ordering.{order_wider, order_blocks}
 use Rattle.batch_committer.proofs.Parting.{TailsAt, tails_at}
@@ -52,17 +54,20 @@ held_at tells k in_a edition disks sink h e floor tail limits told clean =
         serves = e.serves;
         limits = limits;
         floor = floor ∙ ap point same;
-        dues = tt;
+        dues = record { few = omega arith; told = tt; lines = λ f y settled. refl; waits = tt };
         body = ap body_of (sym e.none);
         next = subst (AreFrom (sealed_size h)) (sym e.none) tt;
         gathered = λ more. subst AllGather (sym e.none) refl;
+        group = gathers_none (kept_from k in_a edition) h refl refl;
         located =
             let from = floor_behind (sealed_part h) e.parts.gone in
-            let begins : floor_behind h e.parts.gone ≡ from = ap (λ (g : History). floor_behind g e.parts.gone) same in record {
+            let begins : floor_behind h e.parts.gone ≡ from = ap (λ (g : History). floor_behind g e.parts.gone) same in
+            let kept : e.parts.kept ++ [] ≡ e.parts.kept = append-nil e.parts.kept in record {
               parts = record { gone = e.parts.gone; kept = e.parts.kept; are = e.parts.are; at = e.parts.at };
-              places = e.places_are ∙ ap (λ (f : Floor). places_from f e.parts.kept) begins
-                  ∙ sym (ap (λ (ws : List Entry). places_from from e.parts.kept ++ places_in (body_from k.gate) ws) e.none ∙ append-nil (places_from from e.parts.kept));
+              places = e.places_are ∙ ap (λ (f : Floor). places_from f e.parts.kept) begins ∙ ap (places_from from) (sym kept)
+                  ∙ sym (ap (λ (ws : List Entry). places_from from (e.parts.kept ++ []) ++ places_in (body_from k.gate) ws) e.none ∙ append-nil (places_from from (e.parts.kept ++ [])));
               tail = tail ∙ ap (λ (f : Floor). gate_behind f e.parts.kept) begins;
+              next = tail ∙ ap (λ (f : Floor). gate_behind f e.parts.kept) begins ∙ ap (gate_behind from) (sym kept);
             };
       };
       disks = subst (λ (g : History). IsCleanFor in_a k.gate g disks.a.bytes disks.b.bytes) same clean;
@@ -103,6 +108,12 @@ fits_of tells k in_a edition disks sink start blocks o shut is = record {
   copy = refl;
   few = omega (arith, o.knows.settled);
   order = order_known k blocks o.knows;
+  next = omega arith;
+  some = λ more. absurd (more refl);
+  room = omega arith;
+  spelled = omega arith;
+  owed = λ more. absurd (omega (arith, more, o.knows.settled));
+  clear = λ _. refl;
 }
 
 pub opened_fits : (tells : Bool) (k : Known) (in_a : Bool) (edition : Edition) (start : Option Base) (blocks : List (List Entry)) (a b : State) (disks : Pair) (sink : SinkState) → IsOpened k in_a disks start blocks
@@ -195,14 +206,14 @@ quiet_for false place disks h at x = record {
   images = λ i j left_a left_b. (clean_image false place h disks.a.bytes disks.b.bytes i j x left_a left_b).pair;
 }
 
-pub held_quiet : (tells : Bool) (w : World) (h : History) → Holds tells w h → h.waiting ≡ [] → IsQuietFor w.disks h
-held_quiet tells w h p none =
-    subst (IsQuietFor w.disks) (sealed_same h none) (quiet_for w.kept.in_a w.kept.gate w.disks (sealed_part h) (tails_kept w.kept h p.keeps p.disks.erased.lawful.blocks_are) p.disks)
+pub held_quiet : (tells : Bool) (w : World) (h : History) → Holds tells w h → IsQuietFor w.disks (stored_part w.kept h)
+held_quiet tells w h p =
+    subst (IsQuietFor w.disks) (sym (stored_split w.kept h p.keeps.group)) (quiet_for w.kept.in_a w.kept.gate w.disks (history p.keeps.group.stored []) (tails_held tells w h p) p.disks)
 
 pub held_lawful : (tells : Bool) (w : World) (h : History) → Holds tells w h → HasRoom w.kept → IsLawful h
 held_lawful tells w h p room = record {
   journals_are = p.keeps.serves.stands.lawful;
-  blocks_are = p.disks.erased.lawful.blocks_are;
+  blocks_are = blocks_held tells w h p;
   waiting_is = record {
     room = omega (arith, room.0, p.keeps.serves.stands.counts.size, p.keeps.serves.stands.counts.sealed_is, length-append (journals_of h.closed) h.waiting);
     gathered = opens_gather w.kept.book h p.keeps.serves.stands room.1;

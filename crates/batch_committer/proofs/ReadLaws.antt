@@ -7,7 +7,7 @@ use Rattle.journal_record.specs.Entry.{Entry}
 use Rattle.ledger_disk.specs.Disk.{DiskState, State, KeepsLength}
 use Rattle.ledger_io.specs.Outside.{SinkState}
 use Rattle.ledger_model.specs.Growing.{Grows}
-use Rattle.ledger_model.specs.History.{History}
+use Rattle.ledger_model.specs.History.{History, history}
 use Rattle.ledger_model.specs.declared.due.Due.{Due}
 use Rattle.ledger_model.proofs.GrowLaws.{grows_not}
 use Rattle.ledger_book.specs.Books as books
@@ -19,11 +19,13 @@ use Rattle.ledger_open.specs.Places.{places_from}
 use Rattle.ledger_open.specs.Standing.{floor_behind, IsErased}
 use Rattle.ledger_open.specs.Pieces.{IsReadAs, WasOnlyRead}
 use Rattle.batch_committer.specs.Read.{WereRead, NoneFailed, ReadingEnds}
-use Rattle.batch_committer.specs.World.{Pair, CommitterState, world, ReadsAsLeft, Fits, IsCleanFor, Holds, Goes, Says, EndsBy, EndsOnTheWay, sealed_part}
+use Rattle.batch_committer.specs.World.{Pair, CommitterState, world, ReadsAsLeft, Fits, IsCleanFor, Holds, Goes, Says, EndsBy, EndsOnTheWay, sealed_part, stored_part}
 use Rattle.batch_committer.specs.declared.failure.CommitErr.{CommitErr}
 use Rattle.batch_committer.specs.declared.failure.CommitErr.TheVariants.{DiskFault, WriteFault, NoMemory, Closed}
 use Rattle.batch_committer.proofs.Closing.{sealed_same}
 use Rattle.batch_committer.proofs.Ending.{stops_before}
+use Rattle.batch_committer.proofs.Grouped.{none_gathered, located_held}
+use Rattle.batch_committer.proofs.WayLaws.{begins_not}
 
 -- ---- nothing was read
 
@@ -44,8 +46,8 @@ module _ (tells : Bool) (old new : Pair) (read : WereRead tells old new) where
   holds_read k sink h p = record {
     told = p.told;
     keeps = p.keeps;
-    disks = subst (λ (b : State). IsCleanFor k.in_a k.gate (sealed_part h) new.a.bytes b) (sym (read.b.bytes p.told))
-        (subst (λ (a : State). IsCleanFor k.in_a k.gate (sealed_part h) a old.b.bytes) (sym (read.a.bytes p.told)) p.disks);
+    disks = subst (λ (b : State). IsCleanFor k.in_a k.gate (history p.keeps.group.stored []) new.a.bytes b) (sym (read.b.bytes p.told))
+        (subst (λ (a : State). IsCleanFor k.in_a k.gate (history p.keeps.group.stored []) a old.b.bytes) (sym (read.a.bytes p.told)) p.disks);
   }
 
   told_still : (place : ℕ) (o n : Option ℕ) → KeepsLength o n → IsSomeAnd o (λ (m : ℕ). place + 1 ≤ m) → IsSomeAnd n (λ (m : ℕ). place + 1 ≤ m)
@@ -64,13 +66,14 @@ module _ (tells : Bool) (old new : Pair) (read : WereRead tells old new) where
   edition_by false t = ap (λ (b : State). edition_of b.seen) (read.b.bytes t)
 
   pub fits_read : (k : CommitterState) (sink : SinkState) → Fits tells (world k old sink) → Fits tells (world k new sink)
-  fits_read k sink f = record { reads = reads_by k.in_a k.gate f.reads; edition = λ t. f.edition t ∙ sym (edition_by k.in_a t); copy = f.copy; few = f.few; order = f.order }
+  fits_read k sink f = record { reads = reads_by k.in_a k.gate f.reads; edition = λ t. f.edition t ∙ sym (edition_by k.in_a t); copy = f.copy; few = f.few; order = f.order; next = f.next; some = f.some; room = f.room; spelled = f.spelled; owed = f.owed; clear = f.clear }
 
   -- reading leads to the same history, and nothing becomes due by it
   pub goes_read : (k : CommitterState) (sink : SinkState) → NoneFailed old new → Goes tells (world k old sink) (λ h. h) (λ h. []) (world k new sink)
   goes_read k sink none = record {
     holds = λ h p. holds_read k sink h p;
     grows = λ h p. grows_not h;
+    stays = λ h p. begins_not (stored_part k h).closed;
     sofar = [];
     appended = Appends-nil sink.held;
     writes = λ h p. record { done = []; split = append-nil k.dues; kept = tt; text = λ f y z. refl };
@@ -105,20 +108,21 @@ holds_book tells k book disks sink h is p = subst (λ b. Holds tells (world (rec
 
 -- ---- what is read of a history that is held, where none of its journals waits
 
-pub read_as_held : (tells : Bool) (k : CommitterState) (disks : Pair) (sink : SinkState) (h : History) → Holds tells (world k disks sink) h → h.waiting ≡ [] → (in_a : Bool) → k.in_a ≡ in_a → IsReadAs k.book k.places (open_of in_a disks.a.bytes disks.b.bytes).seen h
-read_as_held tells k disks sink h p none in_a is =
+pub read_as_held : (tells : Bool) (k : CommitterState) (disks : Pair) (sink : SinkState) (h : History) → Holds tells (world k disks sink) h → h.waiting ≡ [] → k.ended ≡ 0 → (in_a : Bool) → k.in_a ≡ in_a → IsReadAs k.book k.places (open_of in_a disks.a.bytes disks.b.bytes).seen h
+read_as_held tells k disks sink h p none settled in_a is =
     let g = sealed_part h in
-    let parts = p.keeps.located.parts in
-    let from = floor_behind g parts.gone in
+    let l = located_held tells (world k disks sink) h p in
+    let from = floor_behind g l.parts.gone in
     subst (IsReadAs k.book k.places (open_of in_a disks.a.bytes disks.b.bytes).seen) (sealed_same h none)
     (record {
       ends = record {
         serves = subst (Serves k.book) (sym (sealed_same h none)) p.keeps.serves;
         begins = inl p.keeps.floor;
-        parts = parts;
-        places_are = p.keeps.located.places ∙ ap (λ (w : List Entry). places_from from parts.kept ++ places_in (body_from k.gate) w) none ∙ append-nil (places_from from parts.kept);
+        parts = l.parts;
+        places_are = l.places ∙ ap (λ (w : List Entry). places_from from l.parts.kept ++ places_in (body_from k.next) w) none ∙ append-nil (places_from from l.parts.kept);
         none = refl;
       };
       floor = p.keeps.floor;
-      erased = subst (λ (v : Bool). IsErased (open_of v disks.a.bytes disks.b.bytes).seen g) is p.disks.erased;
+      erased = subst (λ (v : Bool). IsErased (open_of v disks.a.bytes disks.b.bytes).seen g) is
+          (subst (IsErased (open_of k.in_a disks.a.bytes disks.b.bytes).seen) (none_gathered k h p.keeps.group settled) p.disks.erased);
     })

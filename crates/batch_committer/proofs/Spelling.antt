@@ -1,22 +1,24 @@
 -- Which block's end a receipt tells.
 use Rattle.std.specs.Prelude.{All}
-use Rattle.std.proofs.Common.{◌≡◌, ℕ, ◌+◌, ◌-◌, ◌<◌, ◌≤◌, inl, inr, List, [], ◌∷◌, ◌++◌, length, take, get_or, refl, ap, sym, ◌∙◌, subst, arith, append-nil}
-use Rattle.std.proofs.lemmas.List.{take_more}
+use Rattle.std.proofs.Common.{◌≡◌, ℕ, ◌+◌, ◌-◌, ◌<◌, ◌≤◌, inl, inr, List, [], ◌∷◌, ◌++◌, length, take, drop, get_or, refl, ap, sym, ◌∙◌, subst, arith, append-nil}
+use Rattle.std.proofs.lemmas.List.{take_more, take-append-drop}
 use Rattle.std.proofs.lemmas.List.Concat.{flat_map-append}
 use Rattle.std.proofs.lemmas.List.Elements.{All-nil, All-cons, All-get_or}
 use Rattle.ledger_bytes.specs.Digests.{digest}
 use Rattle.script_lines.specs.BlockEnds.{block_end}
-use Rattle.ledger_model.specs.Dues.{due_line, due_lines, IsWaiting, AllWaiting, IsWithin}
+use Rattle.ledger_model.specs.Dues.{due_line, due_lines, IsWaiting, AllWaiting, AllIn, IsWithin}
+use Rattle.ledger_model.specs.Growing.{Grows}
 use Rattle.ledger_model.specs.History.{History, journals, size, blocks, root, point, close, end_of}
 use Rattle.ledger_model.specs.declared.answer.Answer.{Answer}
 use Rattle.ledger_model.specs.declared.answer.Answer.TheVariants.{Reply, Receipt}
 use Rattle.ledger_model.specs.declared.due.Due.{Due}
-use Rattle.ledger_model.proofs.GrowLaws.{IsEnded, close_none, size_closed}
-use Rattle.ledger_model.proofs.WaitLaws.{leaf_within}
+use Rattle.ledger_model.proofs.GrowLaws.{IsEnded, close_none, grows_close, grows_then, size_closed}
+use Rattle.ledger_model.proofs.RunLaws.{due_lines-append}
+use Rattle.ledger_model.proofs.WaitLaws.{leaf_within, in-append, all_in_more, all_in_ended, begins_closed, lines_ended}
 use Rattle.ledger_book.specs.Books as books
-use Rattle.ledger_book.specs.Books.{sealed_size}
+use Rattle.ledger_book.specs.Books.{Serves, sealed_size}
 use Rattle.batch_committer.specs.Steps.{AllKept, AreLastFrom}
-use Rattle.batch_committer.specs.World.{CommitterState, Keeps, sealed_part}
+use Rattle.batch_committer.specs.World.{CommitterState, Owes, Keeps, sealed_part}
 use Rattle.batch_committer.proofs.Closing.{closed_is}
 use Rattle.batch_committer.proofs.LastBlock.{block_of-ended, end_of-ended}
 
@@ -46,19 +48,32 @@ all_within : (h : History) (ds : List Due) → point (sealed_part h) ≤ sealed_
 all_within h [] le x = All-nil (λ (due : Due). IsWithin (point (sealed_part h)) (size h) due.answer)
 all_within h (d ∷ ds) le x = All-cons (λ (due : Due). IsWithin (point (sealed_part h)) (size h) due.answer) d ds (waits_within h d.answer le x.0) (all_within h ds le x.1)
 
-pub dues_kept : (k : CommitterState) (book : books.Kept) (h : History) → Keeps k h → book.floor ≡ k.book.floor → book.sealed ≡ size h → AllKept book k.dues
-dues_kept k book h p floor sealed =
-    subst (λ low. All (λ due. IsWithin low book.sealed due.answer) k.dues) (sym (floor ∙ p.floor))
-    (subst (λ high. All (λ due. IsWithin (point (sealed_part h)) high due.answer) k.dues) (sym sealed)
-    (all_within h k.dues (omega (arith, p.floor, p.serves.stands.counts.floor)) p.dues))
+pub dues_kept : (old book : books.Kept) (h : History) (ds : List Due) → Serves old h → old.floor ≡ point (sealed_part h) → AllWaiting h ds → book.floor ≡ old.floor → book.sealed ≡ size h → AllKept book ds
+dues_kept old book h ds s at waits floor sealed =
+    subst (λ low. All (λ due. IsWithin low book.sealed due.answer) ds) (sym (floor ∙ at))
+    (subst (λ high. All (λ due. IsWithin (point (sealed_part h)) high due.answer) ds) (sym sealed)
+    (all_within h ds (omega (arith, at, s.stands.counts.floor)) waits))
 
 -- what is spelled where no journal waits
-pub spelled_settled : (k : CommitterState) (first : ℕ) (text : List ℕ) (ds : List Due) (h : History) → Keeps k h → first ≡ k.book.sealed → h.waiting ≡ [] → (AreLastFrom first h → AllKept k.book ds → text ≡ due_lines h ds) → ds ≡ k.dues
-    → text ≡ due_lines h k.dues
-spelled_settled k first text ds h p from none spelled same =
+pub spelled_settled : (k : CommitterState) (first : ℕ) (old text : List ℕ) (ds : List Due) (h : History) → Keeps k h → first ≡ k.book.sealed → h.waiting ≡ [] → (AreLastFrom first h → AllKept k.book ds → text ≡ old ++ due_lines h ds) → ds ≡ drop k.spelled k.dues
+    → text ≡ old ++ due_lines h (drop k.spelled k.dues)
+spelled_settled k first old text ds h p from none spelled same =
     let sealed = p.serves.stands.counts.sealed_is in
-    spelled (subst (λ n. AreLastFrom n h) (sym (from ∙ sealed)) (last_none h)) (subst (AllKept k.book) (sym same) (dues_kept k k.book h p refl (sealed ∙ sym (size_closed h none))))
-    ∙ ap (due_lines h) same
+    spelled (subst (λ n. AreLastFrom n h) (sym (from ∙ sealed)) (last_none h))
+    (subst (AllKept k.book) (sym same) (dues_kept k.book k.book h (drop k.spelled k.dues) p.serves p.floor p.dues.waits refl (sealed ∙ sym (size_closed h none))))
+    ∙ ap (λ (l : List Due). old ++ due_lines h l) same
+
+-- all that is due, once the open block has ended
+pub told_ended : (k : CommitterState) (h : History) → Owes k h → AllIn (close h).closed k.dues
+told_ended k h o =
+    subst (AllIn (close h).closed) (take-append-drop k.spelled k.dues)
+    (in-append (close h).closed (take k.spelled k.dues) (drop k.spelled k.dues) (all_in_more h.closed (close h).closed (take k.spelled k.dues) (begins_closed h (close h) (grows_close h)) o.told) (all_in_ended h (drop k.spelled k.dues) o.waits))
+
+pub lines_later : (k : CommitterState) (h f : History) → Owes k h → Grows (close h) f → f.waiting ≡ [] → k.lines ++ due_lines (close h) (drop k.spelled k.dues) ≡ due_lines f k.dues
+lines_later k h f o y none =
+    ap (λ (l : List ℕ). l ++ due_lines (close h) (drop k.spelled k.dues)) (o.lines f (grows_then h (close h) f (grows_close h) y) none)
+    ∙ ap (λ (l : List ℕ). due_lines f (take k.spelled k.dues) ++ l) (lines_ended h f (drop k.spelled k.dues) y o.waits)
+    ∙ sym (due_lines-append f (take k.spelled k.dues) (drop k.spelled k.dues)) ∙ ap (due_lines f) (take-append-drop k.spelled k.dues)
 
 -- ---- one line after the other
 

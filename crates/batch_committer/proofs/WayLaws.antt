@@ -12,7 +12,7 @@ use Rattle.ledger_model.specs.declared.due.Due.{Due}
 use Rattle.ledger_model.proofs.GrowLaws.{grows_not, grows_then}
 use Rattle.ledger_model.proofs.RunLaws.{due_lines-append}
 use Rattle.ledger_model.proofs.WaitLaws.{in-append, all_in_more, begins_closed}
-use Rattle.batch_committer.specs.World.{Pair, World, Holds, MeetsNoFault, Writes, Goes, Says, LeftAtTheEnd, OneFailed, EndsBy, EndsOnTheWay, before_last, IsLeftClean}
+use Rattle.batch_committer.specs.World.{Pair, World, Holds, MeetsNoFault, Writes, Goes, Says, LeftAtTheEnd, OneFailed, EndsBy, EndsOnTheWay, before_last, IsLeftClean, stored_part}
 use Rattle.batch_committer.specs.declared.failure.CommitErr.{CommitErr}
 use Rattle.batch_committer.specs.declared.failure.CommitErr.TheVariants.{DiskFault, WriteFault, NoMemory, Closed}
 
@@ -51,21 +51,24 @@ ends_later Closed w m t x e = e
 
 -- ---- a way on
 
-pub writes_then : (h g : History) (old more1 mid more2 new : List Due) (sofar1 sofar2 : List ℕ) → Grows h g → Writes h old more1 mid sofar1 → Writes g mid more2 new sofar2 → Writes g old (more1 ++ more2) new (sofar1 ++ sofar2)
-writes_then h g old more1 mid more2 new sofar1 sofar2 x a b = record {
+pub writes_then : (h g s t : History) (old more1 mid more2 new : List Due) (sofar1 sofar2 : List ℕ) → Grows h g → Begins s.closed t.closed → Writes h s old more1 mid sofar1 → Writes g t mid more2 new sofar2 → Writes g t old (more1 ++ more2) new (sofar1 ++ sofar2)
+writes_then h g s t old more1 mid more2 new sofar1 sofar2 x y a b = record {
   done = a.done ++ b.done;
   split = sym (append_assoc old more1 more2) ∙ ap (λ l. l ++ more2) a.split ∙ append_assoc a.done mid more2 ∙ ap (λ l. a.done ++ l) b.split ∙ sym (append_assoc a.done b.done new);
-  kept = in-append g.closed a.done b.done (all_in_more h.closed g.closed a.done (begins_closed h g x) a.kept) b.kept;
-  text = λ f y none. ap (λ l. l ++ sofar2) (a.text f (grows_then h g f x y) none) ∙ ap (λ l. due_lines f a.done ++ l) (b.text f y none) ∙ sym (due_lines-append f a.done b.done);
+  kept = in-append t.closed a.done b.done (all_in_more s.closed t.closed a.done y a.kept) b.kept;
+  text = λ f z none. ap (λ l. l ++ sofar2) (a.text f (grows_then h g f x z) none) ∙ ap (λ l. due_lines f a.done ++ l) (b.text f z none) ∙ sym (due_lines-append f a.done b.done);
 }
 
 pub goes_then : (tells : Bool) (w m t : World) (f g : History → History) (d e : History → List Due) → Goes tells w f d m → Goes tells m g e t → Goes tells w (λ h. g (f h)) (λ h. d h ++ e (f h)) t
 goes_then tells w m t f g d e x y = record {
   holds = λ h p. y.holds (f h) (x.holds h p);
   grows = λ h p. grows_then h (f h) (g (f h)) (x.grows h p) (y.grows (f h) (x.holds h p));
+  stays = λ h p. begins_then (stored_part w.kept h).closed (stored_part m.kept (f h)).closed (stored_part t.kept (g (f h))).closed (x.stays h p) (y.stays (f h) (x.holds h p));
   sofar = x.sofar ++ y.sofar;
   appended = Appends-trans w.sink.held m.sink.held t.sink.held x.sofar y.sofar x.appended y.appended;
-  writes = λ h p. writes_then (f h) (g (f h)) w.kept.dues (d h) m.kept.dues (e (f h)) t.kept.dues x.sofar y.sofar (y.grows (f h) (x.holds h p)) (x.writes h p) (y.writes (f h) (x.holds h p));
+  writes = λ h p.
+      let k = f h in
+      writes_then k (g k) (stored_part m.kept k) (stored_part t.kept (g k)) w.kept.dues (d h) m.kept.dues (e k) t.kept.dues x.sofar y.sofar (y.grows k (x.holds h p)) (y.stays k (x.holds h p)) (x.writes h p) (y.writes k (x.holds h p));
   no_fault = no_fault_then w m t x.no_fault y.no_fault;
 }
 
@@ -108,22 +111,22 @@ says_more WriteFault front part lines s = (begins_more front part lines s.0, ome
 says_more NoMemory front part lines s = ap (λ l. front ++ l) s
 says_more Closed front part lines s = ap (λ l. front ++ l) s
 
-pub stops_then : (h g whole : History) (old more1 mid more2 : List Due) (sofar part : List ℕ) (end : CommitErr) (disks : Pair) → Grows h g → Grows g whole
-    → Writes g old more1 mid sofar → LeftAtTheEnd g whole (mid ++ more2) end part disks → LeftAtTheEnd h whole (old ++ (more1 ++ more2)) end (sofar ++ part) disks
-stops_then h g whole old more1 mid more2 sofar part end disks x y a s = record {
-  done = a.done ++ s.done;
-  rest = s.rest;
-  split = sym (append_assoc old more1 more2) ∙ ap (λ l. l ++ more2) a.split ∙ append_assoc a.done mid more2 ∙ ap (λ l. a.done ++ l) s.split ∙ sym (append_assoc a.done s.done s.rest);
+pub stops_then : (s t g whole : History) (old more1 mid more2 : List Due) (sofar part : List ℕ) (end : CommitErr) (disks : Pair) → Begins s.closed t.closed → Grows g whole
+    → Writes g t old more1 mid sofar → LeftAtTheEnd t whole (mid ++ more2) end part disks → LeftAtTheEnd s whole (old ++ (more1 ++ more2)) end (sofar ++ part) disks
+stops_then s t g whole old more1 mid more2 sofar part end disks x y a b = record {
+  done = a.done ++ b.done;
+  rest = b.rest;
+  split = sym (append_assoc old more1 more2) ∙ ap (λ l. l ++ more2) a.split ∙ append_assoc a.done mid more2 ∙ ap (λ l. a.done ++ l) b.split ∙ sym (append_assoc a.done b.done b.rest);
   said = λ f z none.
-      subst (Says end (sofar ++ part)) (ap (λ l. l ++ due_lines f s.done) (a.text f (grows_then g whole f y z) none) ∙ sym (due_lines-append f a.done s.done))
-      (says_more end sofar part (due_lines f s.done) (s.said f z none));
-  images = λ i j p q. let l = s.images i j p q in record {
+      subst (Says end (sofar ++ part)) (ap (λ l. l ++ due_lines f b.done) (a.text f (grows_then g whole f y z) none) ∙ sym (due_lines-append f a.done b.done))
+      (says_more end sofar part (due_lines f b.done) (b.said f z none));
+  images = λ i j p q. let l = b.images i j p q in record {
     kept = l.kept;
     stands = l.stands;
-    no_shorter = begins_then h.closed g.closed l.kept.closed (begins_closed h g x) l.no_shorter;
+    no_shorter = begins_then s.closed t.closed l.kept.closed x l.no_shorter;
     no_longer = l.no_longer;
-    receipts = in-append l.kept.closed a.done s.done (all_in_more g.closed l.kept.closed a.done l.no_shorter a.kept) l.receipts;
-    clean = clean_more end h g l.kept a.done s.done i j (begins_closed h g x) l.no_shorter a.kept l.clean;
+    receipts = in-append l.kept.closed a.done b.done (all_in_more t.closed l.kept.closed a.done l.no_shorter a.kept) l.receipts;
+    clean = clean_more end s t l.kept a.done b.done i j x l.no_shorter a.kept l.clean;
   };
 }
 
@@ -134,7 +137,7 @@ ended_then tells w m t f g d e end x y = record {
   appended = Appends-trans w.sink.held m.sink.held t.sink.held x.sofar y.part x.appended y.appended;
   stops = λ h p.
       let k = f h in
-      stops_then h k (g k) w.kept.dues (d h) m.kept.dues (e k) x.sofar y.part end t.disks (x.grows h p) (y.grows k (x.holds h p)) (x.writes h p) (y.stops k (x.holds h p));
+      stops_then (stored_part w.kept h) (stored_part m.kept k) k (g k) w.kept.dues (d h) m.kept.dues (e k) x.sofar y.part end t.disks (x.stays h p) (y.grows k (x.holds h p)) (x.writes h p) (y.stops k (x.holds h p));
   cause = ends_later end w m t x.no_fault y.cause;
 }
 
@@ -144,9 +147,12 @@ pub goes_as : (tells : Bool) (w t : World) (f g : History → History) (d e : Hi
 goes_as tells w t f g d e same due x = record {
   holds = λ h p. subst (Holds tells t) (same h p) (x.holds h p);
   grows = λ h p. subst (Grows h) (same h p) (x.grows h p);
+  stays = λ h p. subst (λ (k : History). Begins (stored_part w.kept h).closed (stored_part t.kept k).closed) (same h p) (x.stays h p);
   sofar = x.sofar;
   appended = x.appended;
-  writes = λ h p. subst (λ (l : List Due). Writes (g h) w.kept.dues l t.kept.dues x.sofar) (due h p) (subst (λ (k : History). Writes k w.kept.dues (d h) t.kept.dues x.sofar) (same h p) (x.writes h p));
+  writes = λ h p.
+      subst (λ (l : List Due). Writes (g h) (stored_part t.kept (g h)) w.kept.dues l t.kept.dues x.sofar) (due h p)
+      (subst (λ (k : History). Writes k (stored_part t.kept k) w.kept.dues (d h) t.kept.dues x.sofar) (same h p) (x.writes h p));
   no_fault = x.no_fault;
 }
 
@@ -155,7 +161,9 @@ ended_as tells w t f g d e end same due x = record {
   grows = λ h p. subst (Grows h) (same h p) (x.grows h p);
   part = x.part;
   appended = x.appended;
-  stops = λ h p. subst (λ (l : List Due). LeftAtTheEnd h (g h) (w.kept.dues ++ l) end x.part t.disks) (due h p) (subst (λ (k : History). LeftAtTheEnd h k (w.kept.dues ++ d h) end x.part t.disks) (same h p) (x.stops h p));
+  stops = λ h p.
+      subst (λ (l : List Due). LeftAtTheEnd (stored_part w.kept h) (g h) (w.kept.dues ++ l) end x.part t.disks) (due h p)
+      (subst (λ (k : History). LeftAtTheEnd (stored_part w.kept h) k (w.kept.dues ++ d h) end x.part t.disks) (same h p) (x.stops h p));
   cause = x.cause;
 }
 
@@ -187,6 +195,7 @@ pub goes_same : (tells : Bool) (w : World) → Goes tells w (λ h. h) (λ h. [])
 goes_same tells w = record {
   holds = λ h p. p;
   grows = λ h p. grows_not h;
+  stays = λ h p. begins_not (stored_part w.kept h).closed;
   sofar = [];
   appended = Appends-nil w.sink.held;
   writes = λ h p. record { done = []; split = append-nil w.kept.dues; kept = tt; text = λ f y none. refl };

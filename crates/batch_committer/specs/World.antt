@@ -123,6 +123,9 @@ pub record Fits (tells : Bool) (w : World) : Type 0 where
   pub some : w.kept.ended ≢ 0 → 1 ≤ length w.kept.before
   pub room : w.kept.ended < GROUP_BLOCKS
   pub spelled : w.kept.spelled ≤ length w.kept.dues
+  -- each journal that waits or is gathered has a receipt due
+  pub owed : w.kept.book.sealed < w.kept.book.size → w.kept.spelled < length w.kept.dues
+  pub clear : w.kept.dues ≡ [] → w.kept.ended ≡ 0
 
 -- a journal more has room in the open block, and may share it with those that wait there
 abbrev pub HasRoom : CommitterState → Type 0

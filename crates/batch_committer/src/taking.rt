@@ -214,10 +214,11 @@ impl Taking {
             &mut self.text,
             due,
         )?;
+        self.block.begin_next()?;
         let purge = prepare(self.alloc, &self.opened.book, &self.opened.places)?;
         // All memory is taken: from here on only a disk or the sink fails, so no block that stands is left without its
         // receipts for want of memory. They come behind both syncs, and behind what their journal gives up.
-        commit(&mut self.opened.twin, a, b, self.block.group())?;
+        commit(&mut self.opened.twin, a, b, self.block.ended())?;
         let gone = give_up(&mut self.opened, a, b, purge)?;
         let written = write_all(sink, self.text.as_slice());
         // Receipts don't wait until memory is given back. The files have let go of it already, so the book does also where
@@ -418,10 +419,11 @@ impl Taking {
         ensures room { result ≡ false → self.now.ended + 1 < GROUP_BLOCKS }
         ensures place { result ≡ false → self.now.next + 45 + length self.now.body ≤ 2 ^ 62 }
     {
-        let bytes = self.block.group().len();
+        let before = self.block.ended().len();
+        let block = self.block.as_slice().len();
         self.ended + 1 >= GROUP_BLOCKS
-            || bytes >= GROUP_BYTES
-            || self.next + 45 + bytes as u64 > LAST_GATE
+            || before.saturating_add(block) >= GROUP_BYTES
+            || block as u64 + 45 > LAST_GATE - self.next
     }
 
     // Ends the open block, and gathers it for the disk. What waited for its end is spelled.
@@ -429,7 +431,7 @@ impl Taking {
         requires few { self.old.book.size ≤ self.old.book.sealed + BLOCK_LIMIT }
         requires some { self.old.book.sealed < self.old.book.size }
         requires room { self.old.ended + 1 < GROUP_BLOCKS }
-        requires spelled { self.old.spelled ≤ length self.old.dues }
+        requires spelled { self.old.spelled < length self.old.dues }
         requires place { self.old.next + 45 + length self.old.body ≤ 2 ^ 62 }
         requires gathers { OpenGathers self.old.book }
         ensures ok { OnOk result ((tells : Bool) (disks : Pair) (sink : SinkState) → Goes tells
@@ -481,6 +483,8 @@ impl Taking {
         ensures gathers { OnOk result (StaysGathered self.old self.new item.now.job) }
         ensures order { OnOk result (StaysInOrder self.old self.new) }
         ensures file { KeepsFile self.old self.new }
+        ensures due { OnOk result ((self.new.spelled ≡ self.old.spelled)
+            × (length self.new.dues ≡ length self.old.dues + 1)) }
         ensures once { FailsAtMostOnce (N.state notary.old) (N.state notary.new) }
     {
         let answer = self.judge(a, b, notary, &item.job)?;

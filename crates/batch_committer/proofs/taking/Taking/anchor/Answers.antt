@@ -7,7 +7,7 @@ use Rattle.batch_committer.specs.Attending.{step_in}
 use Rattle.batch_committer.specs.World.{CommitterState, Keeps}
 use Rattle.batch_committer.proofs.Attends.{attends_full, full_stamp, full_why, attends_failed, failed_stamp, failed_why, attends_stamped, stamped}
 use Rattle.batch_committer.proofs.Anchoring.{on_err_all, unstamped_judged, accepted_real, full_of, failed_of, failed_not_full, memory_of}
-use Rattle.batch_committer.proofs.Judging.{judged_placed, order_at}
+use Rattle.batch_committer.proofs.Judging.{judged_placed, order_at, ungrown}
 use Rattle.batch_committer.specs.contracts.taking.Taking.{the_view}
 use Rattle.std.proofs.lemmas.Bool.{true≢false}
 use Rattle.ledger_model.specs.declared.outcome.Outcome.TheVariants.{Placed}
@@ -102,7 +102,7 @@ returns-clause-judged g c =
                 (subst (λ (b : books.Kept). b.limits ≡ c.self.inside.opened.book.limits) (sym x.book) c.place_time.ensures.same.limits)
                 (subst (λ (b : books.Kept). b.floor ≡ c.self.inside.opened.book.floor) (sym x.book) c.place_time.ensures.same.floor) refl
                 (λ journal content approvals parts header_is widths len content_is who_is. x.gathered journal header_is widths (ap length (sym parts.0) ∙ len) (content_is ∙ parts.0) (who_is ∙ ap who_of parts.1))
-                refl refl refl x.rest.file.gate (ap (Receipt placed.jsn placed.leaf) (sym given)) given;
+                ungrown x.rest.file (ap (Receipt placed.jsn placed.leaf) (sym given)) given;
             attended = attends_stamped n m peg c.peg-peg.ensures.wide c.in-Ok.stamp e.list.1 e.list.2 e.list.3 e.lawful h lane index line own
                 (c.peg-peg.ensures.peg h p.serves.stands (c.requires.settled h keeps.serves)) e.origin e.faults;
           },

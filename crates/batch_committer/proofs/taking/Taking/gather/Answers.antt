@@ -1,7 +1,4 @@
-use Rattle.std.proofs.Common.{ℕ, ◌+◌, ◌++◌, ◌∷◌, [], length, ap, ◌∙◌}
-use Rattle.journal_record.specs.Approval.{who_of}
-use Rattle.block_file.specs.FileView.{gate_of}
-use Rattle.block_file.specs.Places.{body_from, place_of_lengths}
+use Rattle.std.proofs.Common.{◌++◌, ◌∷◌, [], refl, ap, ◌∙◌}
 use Rattle.batch_committer.specs.contracts.taking.Taking.{the_view}
 use Rattle.batch_committer.proofs.Judging.{gathered_by, gathered_at, order_more, order_at}
 use Rattle.batch_committer.proofs.taking.Taking.gather.Goals as goal
@@ -12,10 +9,9 @@ returns-clause-gathered c = λ journal header_is widths len content_is who_is.
     let e = c.in_ok-place.ensures in
     let given = c.args.given.now in
     let content = c.args.content.now in
-    let stands = e.place ∙ ap (λ (n : ℕ). place_of_lengths (body_from n + length i.body) (length content) (length (who_of given))) (c.tail-gate.ensures ∙ ap gate_of c.file.ensures.value) in
     gathered_at i _ _ journal c.self.view_is
     (gathered_by i _ c.args.header.now content given c.in_ok-place.place journal header_is widths len content_is who_is e.body
-    (c.push.ensures.list ∙ ap (λ ps. ps ++ c.in_ok-place.place ∷ []) c.in_ok-reserve.ensures.list) stands)
+    (c.push.ensures.list ∙ ap (λ ps. ps ++ c.in_ok-place.place ∷ []) c.in_ok-reserve.ensures.list) e.place e.before)
 
 pub returns-clause-order : goal.returns-clause-order
 returns-clause-order c = λ all.
@@ -23,6 +19,5 @@ returns-clause-order c = λ all.
     let e = c.in_ok-place.ensures in
     let given = c.args.given.now in
     let content = c.args.content.now in
-    let stands = e.place ∙ ap (λ (n : ℕ). place_of_lengths (body_from n + length i.body) (length content) (length (who_of given))) (c.tail-gate.ensures ∙ ap gate_of c.file.ensures.value) in
-    order_more i _ _ _ c.in_ok-place.place c.args.header.now content given e.width stands (ap gate_of c.file.ensures.value) e.body
+    order_more i _ _ _ c.in_ok-place.place c.args.header.now content given e.width e.place refl e.body
     (c.push.ensures.list ∙ ap (λ ps. ps ++ c.in_ok-place.place ∷ []) c.in_ok-reserve.ensures.list) (order_at i c.args.self.now c.self.view_is all)

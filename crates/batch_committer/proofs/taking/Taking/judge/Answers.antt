@@ -19,7 +19,7 @@ use Rattle.batch_committer.specs.Attending.{step_in, Attended, JudgedBy, EndsAsk
 use Rattle.batch_committer.specs.World.{CommitterState, Keeps, Holds, world, pair}
 use Rattle.batch_committer.proofs.Anchoring.{asked_anchor, asked_head, asked_prove, asked_extend, asked_accepted, anchor_asks, keeps_book, on_err_all, told_judged}
 use Rattle.batch_committer.proofs.Attends.{unstamped, unstamped_same, attends_other, ends_untouched}
-use Rattle.batch_committer.proofs.Judging.{real_applies, judged_same_kept, judged_placed, asks_closes, alone_first, order_at, on_ok_then}
+use Rattle.batch_committer.proofs.Judging.{real_applies, judged_same_kept, judged_placed, asks_closes, alone_first, order_at, on_ok_then, ungrown}
 use Rattle.batch_committer.specs.contracts.taking.Taking.{the_view}
 use Rattle.batch_committer.proofs.ReadLaws.{holds_book}
 use Rattle.batch_committer.proofs.taking.Taking.judge.Goals as goal
@@ -33,7 +33,7 @@ pub anchor-requires-clause-settled : goal.anchor-requires-clause-settled
 anchor-requires-clause-settled g c = λ h s.
     let asked = subst (AsksFor c.args.job.now) c.in-Reading.is c.in_ok-refusal.ensures.asked in
     let same = c.in_ok-refusal.ensures.unchanged (subst PlacesNothing (sym c.in-Reading.is) tt) in
-    none_waits _ h (subst (λ b. Serves b h) same s).stands (sym (subst (λ (k : CommitterState). k.book.size ≡ k.book.sealed) (sym c.self.view_is) (c.requires.settled (asks_closes c.args.job.now c.in-Reading.query asked))))
+    none_waits _ h (subst (λ b. Serves b h) same s).stands (sym (subst (λ (k : CommitterState). k.book.size ≡ k.book.sealed) (sym c.self.view_is) (c.requires.settled (asks_closes c.args.job.now c.in-Reading.query asked)).0))
 
 pub returns-in-Refused-clause-judged : goal.returns-in-Refused-clause-judged
 returns-in-Refused-clause-judged g c =
@@ -44,7 +44,7 @@ returns-in-Refused-clause-judged g c =
           let step = step_in n n false lane index line in
           let a = c.in_ok-refusal.ensures.ok h p.serves in
           record {
-            judged = judged_same_kept _ _ h step c.args.job.now _ _ p a (subst PlacesNothing (sym c.in-Refused.is) tt) c.in_ok-refusal.ensures.unchanged refl refl refl (sym (ap (answer_for h step) c.in-Refused.is)) (unstamped n false lane index line);
+            judged = judged_same_kept _ _ h step c.args.job.now _ _ p a (subst PlacesNothing (sym c.in-Refused.is) tt) c.in_ok-refusal.ensures.unchanged ungrown (sym (ap (answer_for h step) c.in-Refused.is)) (unstamped n false lane index line);
             attended = attends_other n h lane index line c.args.job.now (λ is none. let asks = anchor_asks _ h c.args.job.now _ _ (real_applies None c.self.inside.opened.book _ h c.args.job.now _ p.limits a) is none in let no : ⊥ = cc (asks, c.in-Refused.is) in no);
           },
     )
@@ -58,7 +58,7 @@ returns-in-Again-clause-judged g c =
           let step = step_in n n false lane index line in
           let a = c.in_ok-refusal.ensures.ok h p.serves in
           record {
-            judged = judged_same_kept _ _ h step c.args.job.now _ _ p a (subst PlacesNothing (sym c.in-Again.is) tt) c.in_ok-refusal.ensures.unchanged refl refl refl (sym (ap (answer_for h step) c.in-Again.is)) (unstamped n false lane index line);
+            judged = judged_same_kept _ _ h step c.args.job.now _ _ p a (subst PlacesNothing (sym c.in-Again.is) tt) c.in_ok-refusal.ensures.unchanged ungrown (sym (ap (answer_for h step) c.in-Again.is)) (unstamped n false lane index line);
             attended = attends_other n h lane index line c.args.job.now (λ is none. let asks = anchor_asks _ h c.args.job.now _ _ (real_applies None c.self.inside.opened.book _ h c.args.job.now _ p.limits a) is none in let no : ⊥ = cc (asks, c.in-Again.is) in no);
           },
     )
@@ -74,11 +74,11 @@ returns-in_ok-gather_placed-in-Placed-clause-judged g c =
           let a = c.in_ok-refusal.ensures.ok h p.serves in
           record {
             judged = judged_placed None _ _ c.gather_placed.new.self h step c.args.job.now _ c.in-Placed.placed _ p (λ other. opens_gather c.args.self.now.book h holds.keeps.serves.stands c.requires.room.1)
-                (λ alone. none_waits _ h holds.keeps.serves.stands (sym (c.requires.settled (alone_first c.args.job.now alone)))) c.requires.fits
+                (λ alone. none_waits _ h holds.keeps.serves.stands (sym (c.requires.settled (alone_first c.args.job.now alone)).0)) c.requires.fits
                 (subst (λ b. Applies c.self.inside.opened.book.limits None h c.args.job.now c.in_ok-refusal.field-0 b) (sym e.book) a)
                 (subst (λ (b : books.Kept). b.limits ≡ c.self.inside.opened.book.limits) (sym e.book) c.apply.ensures.same.limits)
                 (subst (λ (b : books.Kept). b.floor ≡ c.self.inside.opened.book.floor) (sym e.book) c.apply.ensures.same.floor) c.in-Placed.is
-                e.gathered refl refl refl e.rest.file.gate (ap (Receipt c.in-Placed.placed.jsn c.in-Placed.placed.leaf) (sym (unstamped n false lane index line)) ∙ sym (ap (answer_for h step) c.in-Placed.is)) (unstamped n false lane index line);
+                e.gathered ungrown e.rest.file (ap (Receipt c.in-Placed.placed.jsn c.in-Placed.placed.leaf) (sym (unstamped n false lane index line)) ∙ sym (ap (answer_for h step) c.in-Placed.is)) (unstamped n false lane index line);
             attended = attends_other n h lane index line c.args.job.now (λ is none. let asks = anchor_asks _ h c.args.job.now _ _ (real_applies None c.self.inside.opened.book _ h c.args.job.now _ p.limits a) is none in let no : ⊥ = cc (asks, c.in-Placed.is) in no);
           },
     )
@@ -122,7 +122,7 @@ returns-in-Head-clause-judged g c =
       x.0,
       λ h lane index line sink holds.
           let p = subst (λ (k : CommitterState). Keeps k h) (sym c.self.view_is) holds.keeps in
-          let none = none_waits _ h holds.keeps.serves.stands (sym (c.requires.settled (asks_closes c.args.job.now c.in-Reading.query asked))) in
+          let none = none_waits _ h holds.keeps.serves.stands (sym (c.requires.settled (asks_closes c.args.job.now c.in-Reading.query asked)).0) in
           let y = x.1 h lane index line (subst (λ b. Serves b h) (sym (e.unchanged (subst PlacesNothing (sym c.in-Reading.is) tt))) p.serves) none in
           told_judged _ _ n m h (step_in n m x.0 lane index line) c.args.job.now Head c.in_ok-refusal.field-0 c.in-Reading.query query.Head _ p (e.ok h p.serves) e.unchanged c.in-Reading.is c.in-Head.is job (unstamped_same n m x.0 lane index line y.1.list.list) y,
     )
@@ -137,12 +137,12 @@ returns-in_ok-get-in-Get-clause-judged g c =
       λ h lane index line sink holds.
           let p = subst (λ (k : CommitterState). Holds g.D.Disk.tells (world k disks sink) h) (sym c.self.view_is) holds in
           let step = step_in n n false lane index line in
-          let none = none_waits _ h holds.keeps.serves.stands (sym (c.requires.settled (asks_closes c.args.job.now c.in-Reading.query asked))) in
+          let none = none_waits _ h holds.keeps.serves.stands (sym (c.requires.settled (asks_closes c.args.job.now c.in-Reading.query asked)).0) in
           let there = holds_book g.D.Disk.tells _ c.apply.new.self disks sink h (c.in_ok-refusal.ensures.unchanged nothing) p in
           let a = c.in_ok-refusal.ensures.ok h p.keeps.serves in
           record {
-            judged = judged_same_kept _ _ h step c.args.job.now _ _ p.keeps a nothing c.in_ok-refusal.ensures.unchanged refl refl refl
-                (ap Reply (c.in_ok-get-in-Get.ensures.told h sink there none ∙ ap (told_reply h step) (sym c.in-Get.is)) ∙ sym (ap (answer_for h step) c.in-Reading.is)) (unstamped n false lane index line);
+            judged = judged_same_kept _ _ h step c.args.job.now _ _ p.keeps a nothing c.in_ok-refusal.ensures.unchanged ungrown
+                (ap Reply (c.in_ok-get-in-Get.ensures.told h sink there none (subst (λ (k : CommitterState). k.ended ≡ 0) (sym c.self.view_is) (c.requires.settled (asks_closes c.args.job.now c.in-Reading.query asked)).1) ∙ ap (told_reply h step) (sym c.in-Get.is)) ∙ sym (ap (answer_for h step) c.in-Reading.is)) (unstamped n false lane index line);
             attended = attends_other n h lane index line c.args.job.now (λ is own. let asks = anchor_asks _ h c.args.job.now _ _ (real_applies None c.self.inside.opened.book _ h c.args.job.now _ p.keeps.limits a) is own in let no : ⊥ = cc (asks, c.in-Reading.is, c.in-Get.is) in no);
           },
     )
@@ -159,7 +159,7 @@ returns-in_ok-reply-in-Clue-clause-judged g c =
           let a = e.ok h p.serves in
           let told = c.in_ok-reply-in-Clue.ensures h step (subst (λ b. Serves b h) (sym (e.unchanged nothing)) p.serves) in
           record {
-            judged = judged_same_kept _ _ h step c.args.job.now _ _ p a nothing e.unchanged refl refl refl
+            judged = judged_same_kept _ _ h step c.args.job.now _ _ p a nothing e.unchanged ungrown
                 (ap Reply (told ∙ ap (told_reply h step) (sym c.in-Clue.is)) ∙ sym (ap (answer_for h step) c.in-Reading.is)) (unstamped n false lane index line);
             attended = attends_other n h lane index line c.args.job.now (λ is own. let asks = anchor_asks _ h c.args.job.now _ _ (real_applies None c.self.inside.opened.book _ h c.args.job.now _ p.limits a) is own in let no : ⊥ = cc (asks, c.in-Reading.is, c.in-Clue.is) in no);
           },

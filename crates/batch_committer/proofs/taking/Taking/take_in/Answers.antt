@@ -6,6 +6,7 @@ use Rattle.ledger_model.specs.declared.due.Due.{Due}
 use Rattle.ledger_model.proofs.GrowLaws.{grows_with}
 use Rattle.ledger_book.proofs.StandsLaws.{none_waits}
 use Rattle.batch_committer.specs.Attending.{step_in}
+use Rattle.batch_committer.specs.Steps.{KeepsFile}
 use Rattle.batch_committer.specs.World.{CommitterState, world, pair}
 use Rattle.batch_committer.specs.declared.failure.CommitErr.TheVariants.{NoMemory}
 use Rattle.batch_committer.proofs.Offering.{judged_goes, judged_read, unjudged_ended}
@@ -66,9 +67,10 @@ returns-clause-ok g c =
             goes =
                 judged_read g.D.Disk.tells _ _ old _ sink step i.job e.read e.no_fault
                 (judged_goes g.D.Disk.tells (world c.args.self.now old sink) _ step i.job c.in_ok-answer.answer
-                (ap (λ (k : CommitterState). k.gate) c.self.view_is ∙ e.rest.file.gate) (ap (λ (k : CommitterState). k.in_a) c.self.view_is ∙ e.rest.file.in_a)
+                (subst (λ (k : CommitterState). KeepsFile c.args.self.now k) (sym c.self.view_is) e.rest.file)
                 (c.in-Ok.ensures.items ∙ ap (λ (k : CommitterState). k.dues ++ due ∷ []) c.self.view_is ∙ ap (λ ds. ds ++ due ∷ []) e.rest.dues)
-                (λ closes h s. none_waits _ h s.stands (sym (c.requires.settled closes)))
+                (ap (λ (k : CommitterState). k.spelled) c.self.view_is ∙ e.rest.spelled) (ap (λ (k : CommitterState). k.lines) c.self.view_is ∙ e.rest.lines)
+                (λ closes h s. none_waits _ h s.stands (sym (c.requires.settled closes).0))
                 (λ h holds none. judged_dues c.judge.new.self _ c.push.new.self.items h step i.job c.in_ok-answer.answer c.self.view_is (x.1 h i.lane i.index line sink holds).judged));
             attended = λ h held. (x.1 h i.lane i.index line sink held).attended;
           },
