@@ -2,9 +2,9 @@
 use Rattle.std.specs.Prelude.{Bool, true, false, IsTrue, None}
 use Rattle.std.specs.Int.{w32, w64, to_be_bytes}
 use Rattle.std.specs.Io.KnownBytes.{Appends}
-use Rattle.std.proofs.Common.{◌≡◌, inl, inr, ℕ, ◌+◌, ◌<◌, ◌≤◌, List, [], ◌∷◌, ◌++◌, length, take, drop, refl, ap, sym, subst, ◌∙◌, arith, append_assoc, length-append, length-take, take-append-drop}
+use Rattle.std.proofs.Common.{◌≡◌, inl, inr, ℕ, ◌+◌, ◌-◌, ◌<◌, ◌≤◌, List, [], ◌∷◌, ◌++◌, length, take, drop, refl, ap, sym, subst, ◌∙◌, arith, append_assoc, length-append, length-take, take-append-drop}
 use Rattle.std.proofs.KnownBytes.{Appends-nil}
-use Rattle.std.proofs.lemmas.List.{nil_from_length}
+use Rattle.std.proofs.lemmas.List.{nil_from_length, take_all, take-append-le}
 use Rattle.block_file.specs.declared.block.TheConstants.{BLOCK_HEAD_LEN}
 use Rattle.block_file.specs.File.{IsShutAt, IsGroupOf}
 use Rattle.journal_record.specs.Entry.{Entry}
@@ -277,7 +277,7 @@ located_same old new h stored blocks floor places place next l = record {
 
 -- ---- what the code gathered is the block at its end
 
-block_spelled : (h : History) (count : ℕ) (root_is body : List ℕ) → count ≡ length h.waiting → root_is ≡ root (close h) (sealed_size (close h)) → body ≡ body_of h.waiting → spell.block_head count (length body) root_is ++ body ≡ last_bytes h
+pub block_spelled : (h : History) (count : ℕ) (root_is body : List ℕ) → count ≡ length h.waiting → root_is ≡ root (close h) (sealed_size (close h)) → body ≡ body_of h.waiting → spell.block_head count (length body) root_is ++ body ≡ last_bytes h
 unfolding block_bytes
 block_spelled h count root_is body c r b =
     ap (λ l. spell.block_head count (length l) root_is ++ l) b ∙ ap (λ n. spell.block_head n (length (body_of h.waiting)) root_is ++ body_of h.waiting) c
@@ -285,17 +285,29 @@ block_spelled h count root_is body c r b =
     ∙ append_assoc (to_be_bytes w32 (length h.waiting)) (to_be_bytes w64 (length (body_of h.waiting)) ++ mth sha256 (leaves h)) (body_of h.waiting)
     ∙ ap (λ l. to_be_bytes w32 (length h.waiting) ++ l) (append_assoc (to_be_bytes w64 (length (body_of h.waiting))) (mth sha256 (leaves h)) (body_of h.waiting))
 
--- .. and the group with that block is the one that is committed
-pub at_end : (tells : Bool) (w : World) (count : ℕ) (bytes head body text : List ℕ) → w.kept.next ≡ w.kept.gate + length w.kept.before → ((h : History) → Serves w.kept.book h → count ≡ length h.waiting) → bytes ≡ w.kept.before ++ (head ++ body)
-    → ((h : History) → Serves w.kept.book h → w.kept.body ≡ body_of h.waiting → head ++ body ≡ last_bytes h) → ((ended : List (List ℕ)) → w.kept.before ≡ ended_blocks ended → IsGroupOf (ended ++ (head ++ body) ∷ []) bytes)
-    → ((h : History) → Serves w.kept.book h → w.kept.book.floor ≡ point (sealed_part h) → 1 ≤ length h.waiting → AllWaiting h (drop w.kept.spelled w.kept.dues) → text ≡ w.kept.lines ++ due_lines (close h) (drop w.kept.spelled w.kept.dues))
+-- the bytes of the group that is committed
+pub group_bytes : (before was block next bytes : List ℕ) → bytes ≡ take (length next - 1) next → next ≡ was ++ block ++ 1 ∷ [] → was ≡ before → bytes ≡ before ++ block
+group_bytes before was block next bytes is next_is same =
+    let all : next ≡ (before ++ block) ++ 1 ∷ [] = next_is ∙ ap (λ (l : List ℕ). l ++ block ++ 1 ∷ []) same ∙ sym (append_assoc before block (1 ∷ [])) in
+    is ∙ ap (λ (l : List ℕ). take (length l - 1) l) all ∙ ap (λ (n : ℕ). take n ((before ++ block) ++ 1 ∷ [])) (omega (arith, length-append (before ++ block) (1 ∷ [])))
+    ∙ take-append-le (length (before ++ block)) (before ++ block) (1 ∷ []) (omega arith) ∙ take_all (length (before ++ block)) (before ++ block) (omega arith)
+
+-- .. and the group with the block that ended is the one that is committed
+pub at_end : (tells : Bool) (w : World) (count : ℕ) (was block next bytes text : List ℕ) (due : List Due) → w.kept.next ≡ w.kept.gate + length w.kept.before → ((h : History) → Serves w.kept.book h → count ≡ length h.waiting)
+    → bytes ≡ take (length next - 1) next → next ≡ was ++ block ++ 1 ∷ [] → was ≡ w.kept.before → ((ended : List (List ℕ)) → was ≡ ended_blocks ended → next ≡ ended_blocks (ended ++ block ∷ []))
+    → ((ended : List (List ℕ)) → next ≡ ended_blocks ended → 1 ≤ length ended → IsGroupOf ended bytes)
+    → ((h : History) → Serves w.kept.book h → w.kept.body ≡ body_of h.waiting → block ≡ last_bytes h)
+    → ((h : History) → Serves w.kept.book h → w.kept.book.floor ≡ point (sealed_part h) → 1 ≤ length h.waiting → AllWaiting h due → text ≡ w.kept.lines ++ due_lines (close h) due) → due ≡ drop w.kept.spelled w.kept.dues
     → 1 ≤ count → count ≤ BLOCK_LIMIT → AtEnd tells w bytes text
-at_end tells w count bytes head body text follows counts bytes_are block_is group_is text_is some few = record {
+at_end tells w count was block next bytes text due follows counts bytes_are next_is same ended_is group_is block_is text_is due_is some few = record {
   some = λ h p. subst (λ n. 1 ≤ n) (counts h p.keeps.serves) some;
   most = λ h p. subst (λ n. n ≤ BLOCK_LIMIT) (counts h p.keeps.serves) few;
-  group_is = λ h p. subst (λ (l : List ℕ). IsGroupOf (group_of p.keeps.group ++ l ∷ []) bytes) (block_is h p.keeps.serves p.keeps.body) (group_is (group_of p.keeps.group) p.keeps.group.bytes);
-  behind = λ h p. omega (arith, follows, ap length bytes_are, length-append w.kept.before (head ++ body), ap length (block_is h p.keeps.serves p.keeps.body));
-  text_is = λ h p. text_is h p.keeps.serves p.keeps.floor (subst (λ n. 1 ≤ n) (counts h p.keeps.serves) some) p.keeps.dues.waits;
+  group_is = λ h p.
+      let g = group_of p.keeps.group in
+      subst (λ (l : List ℕ). IsGroupOf (g ++ l ∷ []) bytes) (block_is h p.keeps.serves p.keeps.body) (group_is (g ++ block ∷ []) (ended_is g (same ∙ p.keeps.group.bytes)) (omega (arith, length-append g (block ∷ []))));
+  behind = λ h p. omega (arith, follows, ap length (group_bytes w.kept.before was block next bytes bytes_are next_is same), length-append w.kept.before block, ap length (block_is h p.keeps.serves p.keeps.body));
+  text_is = λ h p.
+      text_is h p.keeps.serves p.keeps.floor (subst (λ n. 1 ≤ n) (counts h p.keeps.serves) some) (subst (AllWaiting h) (sym due_is) p.keeps.dues.waits) ∙ ap (λ (l : List Due). w.kept.lines ++ due_lines (close h) l) due_is;
 }
 
 -- the book once the open block has ended

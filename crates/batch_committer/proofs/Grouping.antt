@@ -222,7 +222,7 @@ one_more front written h b e n g =
     let own = written_blocks from.root [] x.keeps.blocks in
     let bytes = block_bytes (from.root (leaves_of (journals_of x.keeps.blocks) ++ leaves_of b)) b in
     let new = whole_file x.keeps.file.front (own ++ bytes ∷ []) in
-    let y = erased_more e.image h b x n g new (record { gate = 0; rest = []; is = refl; shut = λ no. absurd (let never : ⊥ = cc no in never) }) in record {
+    let y = erased_more e.image h b x n g new (record { gate = 0; rest = []; is = refl; shut = λ no. let never : ⊥ = cc no in never }) in record {
       image = new;
       erased = y.0;
       front_is = y.1 ∙ e.front_is;

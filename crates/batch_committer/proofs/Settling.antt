@@ -103,6 +103,11 @@ module _ (tells : Bool) (k : CommitterState) (text : List ℕ) (none : (h : Hist
 
 -- ---- the gathered blocks are committed
 
+-- what a call asks for is the same with another sink
+pub fits_any : (tells : Bool) (k : CommitterState) (disks : Pair) (sink other : SinkState) → Fits tells (world k disks sink) → Fits tells (world k disks other)
+fits_any tells k disks sink other f =
+    record { reads = f.reads; edition = f.edition; copy = f.copy; few = f.few; order = f.order; next = f.next; some = f.some; room = f.room; spelled = f.spelled; owed = f.owed; clear = f.clear }
+
 module _ (tells : Bool) (k : CommitterState) (disks after : Pair) (sink : SinkState) (ended : k.ended ≢ 0) (is_group : (group : List (List ℕ)) → k.before ≡ ended_blocks group → 1 ≤ length group → IsGroupOf group (take (length k.before - 1) k.before)) where
   abbrev bytes : List ℕ
   bytes = take (length k.before - 1) k.before

@@ -52,5 +52,6 @@ pub(crate) fn end_open(
     // The block ends in the book before its receipts are spelled, since they tell the root behind it.
     book.seal();
     spell(alloc, text, book, first, dues)?;
-    block.finish(count, &book.head().root)
+    block.finish(count, &book.head().root)?;
+    Ok(())
 }

@@ -1,18 +1,13 @@
 //! How the committer takes a job, from its judgement to the end of its block and the replies that are due.
 
-ghost use Rattle.std.specs.Prelude.{◌≡◌, ◌↔◌, ◌+◌, ◌-◌, ◌^◌, ◌≤◌, ◌<◌, [], ◌++◌, false, length, take, drop, All, None, Bool, true, List, ℕ, IfOk, IfErr, OnOk, OnErr};
-ghost use Rattle.std.specs.Io.KnownBytes.{Appends};
+ghost use Rattle.std.specs.Prelude.{◌≡◌, ◌↔◌, ◌+◌, ◌^◌, ◌≤◌, ◌<◌, [], false, length, drop, All, None, Bool, true, List, ℕ, IfOk, IfErr, OnOk, OnErr};
 ghost use Rattle.journal_record.specs.Approval.{who_of};
 ghost use Rattle.journal_record.specs.Entry.{Entry};
 ghost use Rattle.journal_record.specs.Header.{HasWidths, spelling};
 ghost use Rattle.journal_record.specs.declared.approval.Approval.{Approval as AnyApproval};
 ghost use Rattle.ledger_bytes.specs.declared.limits.TheConstants.{APPROVAL_LIMIT, CONTENT_LIMIT, PROOF_LIMIT};
-ghost use Rattle.block_file.specs.File.{IsGroupOf};
 ghost use Rattle.block_file.specs.FileView.{gate_of};
-ghost use Rattle.block_file.specs.Writing.{ended_blocks};
 ghost use Rattle.ledger_io.specs.Outside.{SinkState};
-ghost use Rattle.ledger_io.specs.Writing.{WritesFirst, MeetsAtMostOne};
-ghost use Rattle.ledger_model.specs.Dues.{due_lines};
 ghost use Rattle.ledger_model.specs.Fitting.{fits_job};
 ghost use Rattle.ledger_model.specs.Getting.{get_reply};
 ghost use Rattle.ledger_model.specs.History.{History, id, close};
@@ -21,13 +16,11 @@ ghost use Rattle.ledger_model.specs.declared.job.Job.TheVariants as jobs;
 ghost use Rattle.ledger_book.specs.Books.{Serves};
 ghost use Rattle.ledger_book.specs.Steps.{OpenGathers, HasOperatorRoom};
 ghost use Rattle.ledger_open.specs.Heads.{edition_in};
-ghost use Rattle.twin_file.specs.Twin.{open_of};
 ghost use Rattle.twin_file.specs.Which.{in_a_of, file_of, copy_of};
-ghost use Rattle.batch_committer.specs.Committed.{IsCommitted, IsUncommitted};
 ghost use Rattle.batch_committer.specs.Read.{WereRead, NoneFailed, ReadingEnds};
 ghost use Rattle.batch_committer.specs.Attending.{step_in, FailsAtMostOnce, TakesJob, EndsTaking, TakesIn, EndsIn, JudgedBy, EndsAsking};
 ghost use Rattle.batch_committer.specs.Steps.{HasParts, IsGathered, KeepsFile, KeepsRest, HasGrown, StaysGathered, StaysInOrder};
-ghost use Rattle.batch_committer.specs.World.{Pair, pair, world, first_kept, ReadsAsLeft, Fits, HasRoom, Keeps, Holds, Goes, EndsOnTheWay};
+ghost use Rattle.batch_committer.specs.World.{Pair, pair, world, first_kept, Fits, HasRoom, Keeps, Holds, Goes, EndsOnTheWay};
 
 use crate::CommitErr;
 use crate::commit::commit;
@@ -203,7 +196,8 @@ impl Taking {
             close (λ h. []) end
             (world self.new (pair (D.state a.new) (D.state b.new)) (K.state sink.new))) }
     {
-        if self.opened.book.unsealed() == 0 {
+        let waiting = self.opened.book.unsealed();
+        if waiting == 0 {
             return self.settle(a, b, sink);
         }
         let (_, due) = self.dues.as_slice().split_at(self.spelled);
@@ -259,6 +253,7 @@ impl Taking {
         ensures fits { OnOk result (Fits D.tells (world self.new
             (pair (D.state a.new) (D.state b.new)) (K.state sink.new))) }
         ensures same { OnOk result ((self.new.book ≡ self.old.book) × (self.new.ended ≡ 0)) }
+        ensures room { OnOk result (HasRoom self.old → HasRoom self.new) }
         ensures empty { OnOk result (self.old.book.size ≡ self.old.book.sealed
             → self.new.dues ≡ []) }
         ensures err { IfErr result (λ end. EndsOnTheWay D.tells
@@ -266,26 +261,29 @@ impl Taking {
             (λ h. h) (λ h. []) end
             (world self.new (pair (D.state a.new) (D.state b.new)) (K.state sink.new))) }
     {
-        if self.opened.book.unsealed() == 0 {
-            self.spell_dues()?;
-        }
-        if self.ended > 0 {
-            self.commit_ended(a, b)?;
-        }
+        self.spell_rest()?;
+        self.commit_ended(a, b)?;
         self.write_lines(sink)
     }
 
-    // Spells all that is due, where no journal waits for its block's end.
-    fn spell_dues(&mut self) -> Result<(), NoMemory>
+    // Where no journal waits, nothing that is due waits for a block's end: the rest of it is spelled.
+    fn spell_rest(&mut self) -> Result<(), NoMemory>
         requires few { self.old.spelled ≤ length self.old.dues }
-        requires none { (h : History) → Serves self.old.book h → h.waiting ≡ [] }
+        ensures ok { OnOk result ((tells : Bool) (disks : Pair) (sink : SinkState) → Goes tells
+            (world self.old disks sink) (λ h. h) (λ h. []) (world self.new disks sink)) }
+        ensures fits { OnOk result ((tells : Bool) (disks : Pair) (sink : SinkState)
+            → Fits tells (world self.old disks sink) → Fits tells (world self.new disks sink)) }
         ensures same { OnOk result (self.new ≡ record self.old {
-          spelled = length self.old.dues;
+          spelled = self.new.spelled;
           lines = self.new.lines;
         }) }
-        ensures lines { OnOk result ((h : History) → Keeps self.old h → self.new.lines
-            ≡ self.old.lines ++ due_lines h (drop self.old.spelled self.old.dues)) }
+        ensures all { OnOk result (self.old.book.size ≡ self.old.book.sealed
+            → self.new.spelled ≡ length self.old.dues) }
     {
+        let waiting = self.opened.book.unsealed();
+        if waiting > 0 {
+            return Ok(());
+        }
         let first = self.opened.book.sealed_size();
         let (_, due) = self.dues.as_slice().split_at(self.spelled);
         spell(self.alloc, &mut self.text, &self.opened.book, first, due)?;
@@ -295,43 +293,46 @@ impl Taking {
 
     // Commits the blocks that ended. None of them hides or purges anything.
     fn commit_ended<D: Disk>(&mut self, a: &mut D, b: &mut D) -> Result<(), CommitErr>
-        requires reads { ReadsAsLeft D.tells self.old.gate (open_of self.old.in_a
-            (D.state a.old) (D.state b.old)) }
-        requires some { 1 ≤ length self.old.before }
-        ensures ok { OnOk result (IsCommitted D.tells self.old.in_a self.old.gate
-            (take (length self.old.before - 1) self.old.before)
-            (pair (D.state a.old) (D.state b.old)) (pair (D.state a.new) (D.state b.new))) }
+        requires fits { (sink : SinkState) → Fits D.tells (world self.old
+            (pair (D.state a.old) (D.state b.old)) sink) }
+        ensures ok { OnOk result ((sink : SinkState) → Goes D.tells
+            (world self.old (pair (D.state a.old) (D.state b.old)) sink) (λ h. h) (λ h. [])
+            (world self.new (pair (D.state a.new) (D.state b.new)) sink)) }
+        ensures fits { OnOk result ((sink : SinkState) → Fits D.tells (world self.new
+            (pair (D.state a.new) (D.state b.new)) sink)) }
         ensures same { OnOk result (self.new ≡ record self.old {
-          gate = self.old.gate + length self.old.before;
+          gate = self.new.gate;
           ended = 0;
-          before = [];
+          before = self.new.before;
         }) }
-        ensures group { (ended : List (List ℕ)) → self.old.before ≡ ended_blocks ended
-            → 1 ≤ length ended → IsGroupOf ended (take (length self.old.before - 1) self.old.before) }
-        ensures err { OnErr result (IsUncommitted D.tells self.old.in_a self.old.gate
-            (take (length self.old.before - 1) self.old.before)
-            (pair (D.state a.old) (D.state b.old)) (pair (D.state a.new) (D.state b.new))) }
-        ensures only { IfErr result (λ end. end ≡ CommitErr.DiskFault) }
+        ensures err { IfErr result (λ end. (sink : SinkState) → EndsOnTheWay D.tells
+            (world self.old (pair (D.state a.old) (D.state b.old)) sink) (λ h. h) (λ h. []) end
+            (world self.new (pair (D.state a.new) (D.state b.new)) sink)) }
     {
+        if self.ended == 0 {
+            return Ok(());
+        }
         commit(&mut self.opened.twin, a, b, self.block.ended())?;
         self.block.drop_ended();
         self.ended = 0;
         Ok(())
     }
 
-    // Writes the lines that are spelled.
+    // Writes the lines that are spelled, where no block is gathered.
     fn write_lines<K: Sink>(&mut self, sink: &mut K) -> Result<(), CommitErr>
         requires few { self.old.spelled ≤ length self.old.dues }
-        ensures ok { OnOk result (Appends (K.state sink.old).held (K.state sink.new).held self.old.lines) }
-        ensures taken { IfErr result (λ end. WritesFirst (K.state sink.old).held
-            (K.state sink.new).held self.old.lines) }
-        ensures once { MeetsAtMostOne result (K.state sink.old) (K.state sink.new) }
+        requires none { self.old.ended ≡ 0 }
+        ensures ok { OnOk result ((tells : Bool) (disks : Pair) → Goes tells
+            (world self.old disks (K.state sink.old)) (λ h. h) (λ h. [])
+            (world self.new disks (K.state sink.new))) }
         ensures same { OnOk result (self.new ≡ record self.old {
           dues = drop self.old.spelled self.old.dues;
           spelled = 0;
           lines = [];
         }) }
-        ensures only { IfErr result (λ end. end ≡ CommitErr.WriteFault) }
+        ensures err { IfErr result (λ end. (tells : Bool) (disks : Pair) → EndsOnTheWay tells
+            (world self.old disks (K.state sink.old)) (λ h. h) (λ h. []) end
+            (world self.new disks (K.state sink.new))) }
     {
         write_all(sink, self.text.as_slice())?;
         let left = self.dues.len() - self.spelled;

@@ -22,7 +22,7 @@ pub end_after-requires-clause-fits : goal.end_after-requires-clause-fits
 end_after-requires-clause-fits g c =
     let e = c.in_ok-take_in.ensures in
     fits_read g.D.Disk.tells _ _ e.read c.take_in.new.self (g.K.Sink.state c.end_before.new.sink)
-    (fits_gathered g.D.Disk.tells c.end_before.new.self c.take_in.new.self _ _ c.in_ok-end_before.ensures.fits c.in_ok-end_before.ensures.room e.grown e.order e.file)
+    (fits_gathered g.D.Disk.tells c.end_before.new.self c.take_in.new.self _ _ c.in_ok-end_before.ensures.fits c.in_ok-end_before.ensures.room e.grown e.order e.file e.due.0 e.due.1)
 
 pub end_after-requires-clause-gathers : goal.end_after-requires-clause-gathers
 end_after-requires-clause-gathers g c =
