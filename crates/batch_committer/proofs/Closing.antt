@@ -183,7 +183,7 @@ clean_pair false place h a b i j at x left_a left_b =
       empty = empty_image a i x.empty left_a;
     }
 
-erased_of : (in_a : Bool) (a b : State) (i j : List ℕ) (h : History) → other_of in_a a b ≡ settled_state [] → MayLeave a i → MayLeave b j → IsErased (open_of in_a i j) h → IsErasedPair i j h
+pub erased_of : (in_a : Bool) (a b : State) (i j : List ℕ) (h : History) → other_of in_a a b ≡ settled_state [] → MayLeave a i → MayLeave b j → IsErased (open_of in_a i j) h → IsErasedPair i j h
 erased_of true a b i j h empty left_a left_b x = record { in_a = true; erased = x; empty = empty_image b j empty left_b }
 erased_of false a b i j h empty left_a left_b x = record { in_a = false; erased = x; empty = empty_image a i empty left_a }
 

@@ -1,5 +1,5 @@
 -- The open block ends: it is committed, and then all that is due is written.
-use Rattle.std.specs.Prelude.{Bool, true, false, IsTrue, None}
+use Rattle.std.specs.Prelude.{Bool, true, false, IsTrue, Option, None}
 use Rattle.std.specs.Int.{w32, w64, to_be_bytes}
 use Rattle.std.specs.Io.KnownBytes.{Appends}
 use Rattle.std.proofs.Common.{◌≡◌, inl, inr, ℕ, ◌+◌, ◌-◌, ◌<◌, ◌≤◌, List, [], ◌∷◌, ◌++◌, length, take, drop, refl, ap, sym, subst, ◌∙◌, arith, append_assoc, length-append, length-take, take-append-drop}
@@ -38,6 +38,7 @@ use Rattle.block_file.specs.Places.{body_from, places_in}
 use Rattle.ledger_open.specs.Places.{places_from, AreInOrder}
 use Rattle.ledger_open.specs.Purging.{Ledger, IsCleanOpen, IsAtGate}
 use Rattle.ledger_open.specs.Standing.{floor_behind}
+use Rattle.block_file.specs.declared.file.BlockFile.{BlockFile}
 use Rattle.block_file.specs.declared.place.PlaceAt.{PlaceAt}
 use Rattle.batch_committer.specs.Committed.{IsCommitted, IsUncommitted, IsStanding, IsFinished, IsUnfinished, open_bytes}
 use Rattle.block_file.specs.Writing as spell
@@ -105,23 +106,24 @@ says_first text lines taken is few = subst (Says WriteFault (take taken text)) i
 
 -- ---- a block that is committed
 
--- what is kept of a ledger behind which a group begins
-abbrev pub begun_kept : CommitterState → CommitterState
-begun_kept k = first_kept k.book k.places k.gate k.in_a k.edition k.copy
+-- an open ledger by its parts
+abbrev pub ledger_of : books.Kept → List PlaceAt → Pair → ℕ → Bool → Edition → Ledger
+ledger_of book places disks place in_a edition = record { known = known_from book places place; in_a = in_a; edition = edition; a = disks.a.bytes; b = disks.b.bytes }
 
 -- what is kept once the open block has ended, and what its journal hides or purges was given up
-pub keeps_closed : (k : CommitterState) (disks : Pair) (h : History) → k.book.limits ≡ real_limits → IsCleanOpen (held_ledger k disks) (sealed_part (close h)) → Keeps (begun_kept k) (close h)
-keeps_closed k disks h limits c =
-    let none = close_none h in record {
-      serves = subst (Serves k.book) (sealed_same (close h) none) c.ends.serves;
+pub keeps_closed : (book : books.Kept) (places : List PlaceAt) (gate : ℕ) (in_a : Bool) (edition : Edition) (copy : Option BlockFile) (disks : Pair) (h : History) → book.limits ≡ real_limits → IsCleanOpen (ledger_of book places disks gate in_a edition) (sealed_part (close h)) → Keeps (first_kept book places gate in_a edition copy) (close h)
+keeps_closed book places gate in_a edition copy disks h limits c =
+    let none = close_none h in
+    let k = first_kept book places gate in_a edition copy in record {
+      serves = subst (Serves book) (sealed_same (close h) none) c.ends.serves;
       limits = limits;
       floor = c.floor;
       dues = record { few = omega arith; told = tt; lines = λ f y settled. refl; waits = tt };
       body = sym (ap body_of none);
       next = subst (AreFrom (sealed_size (close h))) (sym none) tt;
       gathered = λ more. subst AllGather (sym none) refl;
-      group = gathers_none (begun_kept k) (close h) refl refl;
-      located = located_clean (begun_kept k) disks (close h) none refl c;
+      group = gathers_none k (close h) refl refl;
+      located = located_clean k disks (close h) none refl c;
     }
 
 -- the bytes and the lines of the group, at the end of its last block
@@ -131,10 +133,6 @@ pub record AtEnd (tells : Bool) (w : World) (bytes text : List ℕ) : Type 0 whe
   pub group_is : (h : History) (p : Holds tells w h) → IsGroupOf (group_of p.keeps.group ++ last_bytes h ∷ []) bytes
   pub behind : (h : History) → Holds tells w h → w.kept.gate + 1 + length bytes ≡ w.kept.next + 1 + length (last_bytes h)
   pub text_is : (h : History) → Holds tells w h → text ≡ w.kept.lines ++ due_lines (close h) (drop w.kept.spelled w.kept.dues)
-
--- an open ledger by its parts
-abbrev pub ledger_of : books.Kept → List PlaceAt → Pair → ℕ → Bool → Edition → Ledger
-ledger_of book places disks place in_a edition = record { known = known_from book places place; in_a = in_a; edition = edition; a = disks.a.bytes; b = disks.b.bytes }
 
 -- the ledger in front of what is given up: the group stands behind its file
 abbrev pub mid_ledger : World → books.Kept → List ℕ → Pair → Ledger
@@ -188,27 +186,32 @@ module _ (tells : Bool) (w : World) (bytes text : List ℕ) (e : AtEnd tells w b
     stands_then h p =
         standing tells w h p (e.some h p) (e.most h p) book (at.serves h p.keeps.serves) at.same bytes (e.group_is h p) mid at.committed (w.kept.gate + 1 + length bytes) refl (e.behind h p) (at.named p.told)
 
-    module _ (k : CommitterState) (disks : Pair) (f : IsFinished tells (mid_ledger w book bytes mid) (held_ledger k disks) mid disks) where
-      clean_then : (h : History) → Holds tells w h → IsCleanOpen (held_ledger k disks) (sealed_part (close h))
+    module _ (now : books.Kept) (places : List PlaceAt) (gate : ℕ) (in_a : Bool) (edition : Edition) (disks : Pair) (f : IsFinished tells (mid_ledger w book bytes mid) (ledger_of now places disks gate in_a edition) mid disks) where
+      abbrev after : Ledger
+      after = ledger_of now places disks gate in_a edition
+
+      clean_then : (h : History) → Holds tells w h → IsCleanOpen after (sealed_part (close h))
       clean_then h p = f.clean p.told (sealed_part (close h)) (stands_then h p)
 
       -- all went well
-      pub end_goes : (sink : SinkState) → Appends w.sink.held sink.held text → MeetsNone w.sink sink → Goes tells w close (λ h. []) (world (begun_kept k) disks sink)
-      end_goes sink appended none = record {
-        holds = λ h p. record {
-          told = p.told;
-          keeps = keeps_closed k disks h (f.limits ∙ at.same.limits ∙ p.keeps.limits) (clean_then h p);
-          disks = clean_for (held_ledger k disks) (sealed_part (close h)) (clean_then h p);
-        };
-        grows = λ h p. grows_close h;
-        stays = λ h p.
-            subst (λ (g : History). Begins (stored_part w.kept h).closed g.closed) (sym (stored_all (begun_kept k) (close h) refl))
-            (begins_then (stored_part w.kept h).closed h.closed (close h).closed (stored_begins w.kept h) (begins_closed h (close h) (grows_close h)));
-        sofar = text;
-        appended = appended;
-        writes = λ h p. writes_ended w.kept (begun_kept k) h text p.keeps.dues refl (e.text_is h p);
-        no_fault = record { a = f.faults_a ∙ at.committed.faults_a; b = f.faults_b ∙ at.committed.faults_b; sink = none };
-      }
+      pub end_goes : (copy : Option BlockFile) (sink : SinkState) → Appends w.sink.held sink.held text → MeetsNone w.sink sink → Goes tells w close (λ h. []) (world (first_kept now places gate in_a edition copy) disks sink)
+      unfolding keeps_closed
+      end_goes copy sink appended none =
+          let k = first_kept now places gate in_a edition copy in record {
+            holds = λ h p. record {
+              told = p.told;
+              keeps = keeps_closed now places gate in_a edition copy disks h (f.limits ∙ at.same.limits ∙ p.keeps.limits) (clean_then h p);
+              disks = clean_for after (sealed_part (close h)) (clean_then h p);
+            };
+            grows = λ h p. grows_close h;
+            stays = λ h p.
+                subst (λ (g : History). Begins (stored_part w.kept h).closed g.closed) (sym (stored_all k (close h) refl))
+                (begins_then (stored_part w.kept h).closed h.closed (close h).closed (stored_begins w.kept h) (begins_closed h (close h) (grows_close h)));
+            sofar = text;
+            appended = appended;
+            writes = λ h p. writes_ended w.kept k h text p.keeps.dues refl (e.text_is h p);
+            no_fault = record { a = f.faults_a ∙ at.committed.faults_a; b = f.faults_b ∙ at.committed.faults_b; sink = none };
+          }
 
       -- the sink failed
       pub end_unwritten : (t : CommitterState) (sink : SinkState) (taken : ℕ) → taken < length text → Appends w.sink.held sink.held (take taken text) → MeetsOne w.sink sink → EndsOnTheWay tells w close (λ h. []) WriteFault (world t disks sink)
@@ -218,7 +221,7 @@ module _ (tells : Bool) (w : World) (bytes text : List ℕ) (e : AtEnd tells w b
         appended = appended;
         stops = λ h p.
             let c = clean_then h p in
-            let x = clean_for (held_ledger k disks) (sealed_part (close h)) c in
+            let x = clean_for after (sealed_part (close h)) c in
             subst (λ (g : History). LeftAtTheEnd g (close h) (w.kept.dues ++ []) WriteFault (take taken text) disks) (sym (stored_split w.kept h p.keeps.group))
             (record {
               done = w.kept.dues;
@@ -227,11 +230,11 @@ module _ (tells : Bool) (w : World) (bytes text : List ℕ) (e : AtEnd tells w b
               said = λ f y none. says_first text (due_lines f w.kept.dues) taken (e.text_is h p ∙ lines_later w.kept h f p.keeps.dues y none) few;
               images = λ i j left_a left_b. record {
                 kept = sealed_part (close h);
-                stands = clean_image k.in_a k.gate (sealed_part (close h)) disks.a.bytes disks.b.bytes i j x left_a left_b;
+                stands = clean_image in_a gate (sealed_part (close h)) disks.a.bytes disks.b.bytes i j x left_a left_b;
                 no_shorter = from_stored h p;
                 no_longer = begins_not (close h).closed;
                 receipts = told_ended w.kept h p.keeps.dues;
-                clean = clean_pair k.in_a k.gate (sealed_part (close h)) disks.a.bytes disks.b.bytes i j (tails_clean (held_ledger k disks) (sealed_part (close h)) c) x left_a left_b;
+                clean = clean_pair in_a gate (sealed_part (close h)) disks.a.bytes disks.b.bytes i j (tails_clean after (sealed_part (close h)) c) x left_a left_b;
               };
             });
         cause = (f.faults_a ∙ at.committed.faults_a, f.faults_b ∙ at.committed.faults_b, one);
@@ -288,7 +291,7 @@ block_spelled h count root_is body c r b =
 -- the bytes of the group that is committed
 pub group_bytes : (before was block next bytes : List ℕ) → bytes ≡ take (length next - 1) next → next ≡ was ++ block ++ 1 ∷ [] → was ≡ before → bytes ≡ before ++ block
 group_bytes before was block next bytes is next_is same =
-    let all : next ≡ (before ++ block) ++ 1 ∷ [] = next_is ∙ ap (λ (l : List ℕ). l ++ block ++ 1 ∷ []) same ∙ sym (append_assoc before block (1 ∷ [])) in
+    let all : next ≡ (before ++ block) ++ 1 ∷ [] = next_is ∙ ap (λ (l : List ℕ). l ++ block ++ 1 ∷ []) same in
     is ∙ ap (λ (l : List ℕ). take (length l - 1) l) all ∙ ap (λ (n : ℕ). take n ((before ++ block) ++ 1 ∷ [])) (omega (arith, length-append (before ++ block) (1 ∷ [])))
     ∙ take-append-le (length (before ++ block)) (before ++ block) (1 ∷ []) (omega arith) ∙ take_all (length (before ++ block)) (before ++ block) (omega arith)
 
@@ -354,14 +357,14 @@ edition_at true edition disks is = is
 edition_at false edition disks is = is
 
 -- what the next call asks for, whatever stands in the files
-pub fits_finished : (tells : Bool) (k : CommitterState) (old : Ledger) (mid disks : Pair) (sink : SinkState) → (IsTrue tells → IsAtGate old) → AreInOrder 64 old.known.gate old.known.places → old.known.book.size ≡ old.known.book.sealed → k.copy ≡ None
-    → IsFinished tells old (held_ledger k disks) mid disks → Fits tells (world (begun_kept k) disks sink)
-fits_finished tells k old mid disks sink gate order none copy f = record {
-  reads = record { told = f.told; shut = λ told. shut_at k.in_a k.gate disks (f.gate told (gate told)).shut };
-  edition = λ told. edition_at k.in_a k.edition disks (f.gate told (gate told)).edition;
-  copy = copy;
+pub fits_finished : (tells : Bool) (book : books.Kept) (places : List PlaceAt) (gate : ℕ) (in_a : Bool) (edition : Edition) (copy : Option BlockFile) (old : Ledger) (mid disks : Pair) (sink : SinkState) → (IsTrue tells → IsAtGate old) → AreInOrder 64 old.known.gate old.known.places → old.known.book.size ≡ old.known.book.sealed → copy ≡ None
+    → IsFinished tells old (ledger_of book places disks gate in_a edition) mid disks → Fits tells (world (first_kept book places gate in_a edition copy) disks sink)
+fits_finished tells book places gate in_a edition copy old mid disks sink shut order none begun f = record {
+  reads = record { told = f.told; shut = λ told. shut_at in_a gate disks (f.gate told (shut told)).shut };
+  edition = λ told. edition_at in_a edition disks (f.gate told (shut told)).edition;
+  copy = begun;
   few = omega (arith, none, f.size, f.sealed);
-  order = order_wider 64 k.gate (body_from k.gate + 0) k.places (f.order order) (omega arith);
+  order = order_wider 64 gate (body_from gate + 0) places (f.order order) (omega arith);
   next = omega arith;
   some = λ more. absurd (more refl);
   room = omega arith;

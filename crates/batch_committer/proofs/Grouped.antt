@@ -107,7 +107,7 @@ module _ (k : CommitterState) (h : History) (p : Keeps k h) where
   located_all some =
       let parts = p.located.parts in
       let blocks = p.group.blocks in
-      let few = omega (arith, parts.at, gone_few k.book.floor (stored) refl parts) in
+      let few : length (journals_of parts.gone) ≤ size (stored) = omega (arith, parts.at, gone_few k.book.floor (stored) refl parts) in
       let floor : floor_behind (sealed_part h) parts.gone ≡ floor_behind (stored) parts.gone =
       ap (λ (g : History). floor_behind g parts.gone) (sym sealed_is) ∙ floor_all (stored) blocks parts.gone refl next_blocks few some in
       record {

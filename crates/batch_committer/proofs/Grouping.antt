@@ -1,13 +1,14 @@
 -- Blocks that gather, one behind the other: a file that has them too is as clean as it was.
 use Rattle.std.specs.Prelude.{Bool, true, false, cond, max, slice_get, ◌||◌, ◌&&◌, ◌==◌}
 use Rattle.std.specs.List.{list_any, list_all}
-use Rattle.std.proofs.Common.{◌≡◌, ℕ, ◌+◌, ◌-◌, ◌≤◌, List, [], ◌∷◌, ◌++◌, length, take, refl, ap, sym, subst, ◌∙◌, arith, append_assoc, append-nil, length-append}
-use Rattle.std.proofs.lemmas.Bool.{and_parts}
+use Rattle.std.proofs.Common.{◌≡◌, ℕ, ◌+◌, ◌≤◌, List, [], ◌∷◌, ◌++◌, length, refl, ap, sym, subst, ◌∙◌, arith, append_assoc, append-nil, length-append}
+use Rattle.std.proofs.lemmas.Bool.{and_parts, eq-eqb, true≢false}
+use Rattle.std.proofs.lemmas.Option.{slice_get_past}
 use Rattle.std.proofs.lemmas.List.{map-append}
 use Rattle.std.proofs.lemmas.List.Concat.{flat_map-append}
 use Rattle.sha2.specs.Sha256.{sha256}
 use Rattle.tree_model.specs.Tree.{mth}
-use Rattle.journal_record.specs.Blocks.{block_bytes, leaves_of, written_blocks, IsBlock, AreBlocks}
+use Rattle.journal_record.specs.Blocks.{block_bytes, leaves_of, written_blocks, AreFrom, IsBlock, AreBlocks}
 use Rattle.journal_record.specs.Entry.{Entry}
 use Rattle.journal_record.specs.Header.{spelling}
 use Rattle.journal_record.specs.declared.header.Kind.{Kind}
@@ -17,13 +18,14 @@ use Rattle.ledger_model.specs.History.{History, history, journals, journals_of, 
 use Rattle.ledger_model.specs.Lawful.{AreNext, AllGather, gathers}
 use Rattle.ledger_model.specs.Targets.{hides, is_hidden, is_hidden_by, is_occult}
 use Rattle.ledger_model.proofs.BaseLaws.{front_next, more_journals}
-use Rattle.ledger_model.proofs.LawfulLaws.{hide_none, some_journal, two_points}
+use Rattle.ledger_model.proofs.HideLaws.{named_before}
+use Rattle.ledger_model.proofs.LawfulLaws.{hide_none, lawful_from, some_journal, two_points}
 use Rattle.ledger_open.specs.Growing.{with_block, IsNextBlock}
-use Rattle.ledger_open.specs.Standing.{Floor, floor_behind, hidden_before, HasBlocks, StandsBy, IsErased}
+use Rattle.ledger_open.specs.Standing.{Floor, floor_behind, HasBlocks, AllKept, SameButHidden, StandsBy, IsErased}
 use Rattle.ledger_open.proofs.FloorLaws.{floor_first, floor_kept, floor_root}
-use Rattle.ledger_open.proofs.GrowLaws.{grown, file_more, written_more}
-use Rattle.ledger_open.proofs.HidingLaws.{hidden_push, before_push}
-use Rattle.ledger_open.proofs.KeptLaws.{all_kept, header_map_same, same_weaker}
+use Rattle.ledger_open.proofs.GrowLaws.{grown, blocks_more, written_more}
+use Rattle.ledger_open.proofs.HidingLaws.{hidden_among, hidden_push, journals_closed}
+use Rattle.ledger_open.proofs.KeptLaws.{all_kept, header_map_same, same_more, same_weaker}
 use Rattle.ledger_open.proofs.LikeLaws.{count_kept}
 use Rattle.ledger_open.proofs.PartLaws.{size_parts}
 use Rattle.batch_committer.proofs.Closing.{next_rest, stands_by}
@@ -98,6 +100,14 @@ pub point_block : (h : History) (b : List Entry) → h.waiting ≡ [] → 1 ≤ 
 unfolding point
 point_block h b none some g = ap greatest_point (more_journals h b none some) ∙ same_point (journals h) b g
 
+-- a block whose contents are all kept
+all_self : (hid gone : ℕ → Bool) (m : ℕ) (es : List Entry) → AreFrom m es → ((n : ℕ) → m ≤ n → gone n ≡ false) → AllKept hid gone es es
+all_self hid gone m [] a none = tt
+all_self hid gone m (e ∷ es) a none = (
+  record { header = refl; who = refl; shown = λ s. refl; zeroed = λ z. let no : ⊥ = true≢false (sym z ∙ none e.header.jsn (omega (arith, a.0.jsn))) in absurd no },
+  all_self hid gone (m + 1) es a.1 (λ n le. none n (omega (arith, le))),
+)
+
 module _ (image : List ℕ) (h : History) (b : List Entry) (x : IsErased image h) (n : IsNextBlock h b) (g : AllGather b) where
   abbrev more : History
   more = with_block b h
@@ -105,38 +115,55 @@ module _ (image : List ℕ) (h : History) (b : List Entry) (x : IsErased image h
   abbrev from : Floor
   from = floor_behind h x.parts.gone
 
+  none_later : (t : Entry) → size h ≤ t.header.jsn → list_any (hides t) (journals_of h.closed) ≡ false
+  none_later t le = ap (list_any (hides t)) (sym (journals_closed h x.none)) ∙ named_before 0 t.header.jsn (journals h) (lawful_from (journals h) x.lawful.journals_are) (omega (arith, le))
+
   -- what is hidden was hidden before
-  shown : (m : ℕ) → is_hidden more m ≡ true → hidden_before more m ≡ true
-  shown m t =
+  hidden_same : (m : ℕ) → is_hidden more m ≡ is_hidden h m
+  hidden_same m =
       let target = slice_get (journals_of h.closed ++ b) m in
       let front = is_hidden_by (journals_of h.closed) target in
-      before_push h.closed b m n.entries.some
-      ∙ ap (λ (v : Bool). v || is_hidden_by (take (length b - 1) b) target)
-      (left_of front (is_hidden_by b target) (hide_none b target (λ t. shows_all t b g)) (sym (hidden_push h.closed b m) ∙ t)) where
-        left_of : (v w : Bool) → w ≡ false → (v || w) ≡ true → v ≡ true
-        left_of true w e t = refl
-        left_of false w e t = sym e ∙ t
+      hidden_push h.closed b m ∙ ap (λ (v : Bool). front || v) (hide_none b target (λ t. shows_all t b g)) ∙ or_false front
+      ∙ hidden_among (journals_of h.closed) (size h) none_later m (journals_of h.closed) b n.entries.entries
+      ∙ ap (λ (l : List Entry). is_hidden_by l (slice_get l m)) (sym (journals_closed h x.none)) where
+        or_false : (v : Bool) → (v || false) ≡ v
+        or_false true = refl
+        or_false false = refl
+
+  none_new : (m : ℕ) → size h ≤ m → is_hidden more m ≡ false
+  none_new m le = hidden_same m ∙ ap (is_hidden_by (journals h)) (slice_get_past (journals h) m le)
+
+  same_then : SameButHidden (is_hidden more) (is_hidden more) (x.parts.kept ++ b ∷ []) (x.keeps.blocks ++ b ∷ [])
+  same_then =
+      same_more (is_hidden more) (is_hidden more) x.parts.kept x.keeps.blocks b b
+      (same_weaker (is_hidden h) (is_hidden h) (is_hidden more) (is_hidden more) (λ m s. sym (hidden_same m) ∙ s) (λ m z. sym (hidden_same m) ∙ z) x.parts.kept x.keeps.blocks x.keeps.same)
+      (all_self (is_hidden more) (is_hidden more) (size h) b n.entries.entries none_new)
 
   number : (from).first + length (journals_of x.keeps.blocks) ≡ size h
   number =
-      omega (
-        arith,
-        floor_first h x.parts.gone,
-        x.parts.at,
-        size_parts (point h) h x.none x.parts,
-        count_kept (is_hidden h) (is_hidden h) (journals_of x.parts.kept) (journals_of x.keeps.blocks) (all_kept (is_hidden h) (is_hidden h) x.parts.kept x.keeps.blocks x.keeps.same),
-      )
+      omega (arith, floor_first h x.parts.gone, x.parts.at, size_parts (point h) h x.none x.parts,
+      count_kept (is_hidden h) (is_hidden h) (journals_of x.parts.kept) (journals_of x.keeps.blocks) (all_kept (is_hidden h) (is_hidden h) x.parts.kept x.keeps.blocks x.keeps.same))
 
   pub floor_same : floor_behind more x.parts.gone ≡ from
   floor_same = floor_kept h b x.none n.entries.some x.parts.gone (omega (arith, x.parts.at, size_parts (point h) h x.none x.parts)) (omega (arith, some_journal (journals h) x.lawful.journals_are))
+
+  early_then : x.edition.number + cond (point h == point h) 0 1 + 1 ≤ size more + x.edition.version
+  early_then = omega (arith, x.early, ap length (more_journals h b x.none n.entries.some), length-append (journals h) b)
 
   module _ (new : List ℕ) (stands : IsFileOf x.keeps.file.front (written_blocks (from).root [] x.keeps.blocks ++ block_bytes ((from).root (leaves_of (journals_of x.keeps.blocks) ++ leaves_of b)) b ∷ []) new) where
     abbrev HasFile : Floor → Type 0
     HasFile f = (y : HasBlocks f x.edition (x.keeps.blocks ++ b ∷ []) new) × (y.front ≡ x.keeps.file.front)
 
     file_old : HasFile from
-    unfolding file_more
-    file_old = (file_more from x.edition x.keeps.blocks b image new x.keeps.file (subst (λ (m : ℕ). IsBlock m b) (sym number) n.entries) stands, refl)
+    file_old = (
+      record {
+        front = x.keeps.file.front;
+        head = x.keeps.file.head;
+        lawful = blocks_more (from).first x.keeps.blocks b x.keeps.file.lawful (subst (λ (m : ℕ). IsBlock m b) (sym number) n.entries);
+        stands = subst (λ (bs : List (List ℕ)). IsFileOf x.keeps.file.front bs new) (sym (written_more (from).root [] x.keeps.blocks b)) stands;
+      },
+      refl,
+    )
 
     file : HasFile (floor_behind more x.parts.gone)
     file = subst HasFile (sym floor_same) file_old
@@ -146,29 +173,24 @@ module _ (image : List ℕ) (h : History) (b : List Entry) (x : IsErased image h
         (y : StandsBy p (is_hidden more) new more) × (y.keeps.file.front ≡ x.keeps.file.front)
         × (written_blocks (floor_behind more y.parts.gone).root [] y.keeps.blocks ≡ written_blocks (from).root [] (x.keeps.blocks ++ b ∷ []))
 
-    erased_old : Erased (point h)
-    unfolding grown
-    erased_old =
-        let y = grown image new h b x n.entries n.shape n.next stands in (
-          record {
-            edition = x.edition;
-            parts = y.parts;
-            keeps = record {
-              blocks = x.keeps.blocks ++ b ∷ [];
-              file = (file).0;
-              same = same_weaker (is_hidden more) (hidden_before more) (is_hidden more) (is_hidden more) (λ m s. s) shown y.parts.kept y.keeps.blocks y.keeps.same;
-            };
-            early = y.early;
-            none = y.none;
-            lawful = y.lawful;
-            wide = y.wide;
-          },
-          (file).1,
-          ap (λ (f : Floor). written_blocks f.root [] (x.keeps.blocks ++ b ∷ [])) floor_same,
-        )
+    -- the point and the floor are as they were
+    erased_at : (p : ℕ) → p ≡ point h → p ≡ point more → Erased p
+    erased_at p at same = (
+      record {
+        edition = x.edition;
+        parts = record { gone = x.parts.gone; kept = x.parts.kept ++ b ∷ []; are = ap (λ (l : List (List Entry)). l ++ b ∷ []) x.parts.are ∙ append_assoc x.parts.gone x.parts.kept (b ∷ []); at = x.parts.at ∙ sym at };
+        keeps = record { blocks = x.keeps.blocks ++ b ∷ []; file = (file).0; same = same_then };
+        early = subst (λ (v : Bool). x.edition.number + cond v 0 1 + 1 ≤ size more + x.edition.version) (eq-eqb (point h) (point h) refl ∙ sym (eq-eqb p (point more) same)) early_then;
+        none = refl;
+        lawful = (grown image new h b x n.entries n.shape n.next stands).lawful;
+        wide = x.wide;
+      },
+      (file).1,
+      ap (λ (f : Floor). written_blocks f.root [] (x.keeps.blocks ++ b ∷ [])) floor_same,
+    )
 
     pub erased_more : Erased (point more)
-    erased_more = subst Erased (sym (point_block h b x.none n.entries.some g)) erased_old
+    erased_more = erased_at (point more) (point_block h b x.none n.entries.some g) refl
 
 -- ---- many blocks more
 

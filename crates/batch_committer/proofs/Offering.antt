@@ -1,7 +1,7 @@
 -- A job is taken: the open block may end before it and after it.
 use Rattle.ledger_open.specs.Heads.{edition_of}
 use Rattle.std.specs.Prelude.{◌||◌, Bool, true, false, nat_le, Result, Ok, Err, IfErr}
-use Rattle.std.proofs.Common.{◌≡◌, ℕ, ◌<◌, ◌≤◌, cond, List, [], ◌∷◌, ◌++◌, length, take, drop, refl, ap, sym, subst, ◌∙◌, arith, append_assoc, append-nil, length-append}
+use Rattle.std.proofs.Common.{◌≡◌, ℕ, ◌+◌, ◌<◌, ◌≤◌, cond, List, [], ◌∷◌, ◌++◌, length, take, drop, refl, ap, sym, subst, ◌∙◌, arith, append_assoc, append-nil, length-append}
 use Rattle.std.proofs.KnownBytes.{Appends-nil}
 use Rattle.std.proofs.lemmas.Bool.{le-leb, lt-leb}
 use Rattle.std.proofs.lemmas.List.{take-append-le, drop-append-le}
@@ -216,6 +216,9 @@ idle_goes tells w t job none x = goes_as tells w t (λ h. h) (settled_history jo
 
 pub idle_ended : (tells : Bool) (w t : World) (job : Job) (end : CommitErr) → ((h : History) → Serves w.kept.book h → h.waiting ≡ []) → EndsOnTheWay tells w (λ h. h) (λ h. []) end t → EndsOnTheWay tells w (settled_history job) (λ h. []) end t
 idle_ended tells w t job end none x = ended_as tells w t (λ h. h) (settled_history job) (λ h. []) (λ h. []) end (λ h p. settled_idle job h (none h p.keeps.serves)) (λ h p. refl) x
+
+pub at_least : (most count waiting : ℕ) → most ≤ count → count ≡ waiting → most ≤ waiting
+at_least most count waiting le is = subst (λ (n : ℕ). most ≤ n) is le
 
 -- the block that is full ends
 pub full_goes : (tells : Bool) (w t : World) (job : Job) → ((h : History) → Serves w.kept.book h → BLOCK_LIMIT ≤ length h.waiting) → Goes tells w close (λ h. []) t → Goes tells w (settled_history job) (λ h. []) t

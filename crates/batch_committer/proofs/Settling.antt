@@ -1,9 +1,9 @@
 -- Blocks are gathered, committed without a new end, and what is due for them is written.
-use Rattle.std.specs.Prelude.{Bool, true, false, IsTrue, None}
+use Rattle.std.specs.Prelude.{Bool, true, false, IsTrue, Some, None}
 use Rattle.std.specs.Io.KnownBytes.{Appends}
-use Rattle.std.proofs.Common.{◌≡◌, inl, inr, ℕ, ◌+◌, ◌-◌, ◌<◌, ◌≤◌, List, [], ◌∷◌, ◌++◌, length, take, drop, refl, ap, sym, subst, ◌∙◌, arith, append_assoc, append-nil, length-append, length-take, take-append-drop}
+use Rattle.std.proofs.Common.{◌≡◌, ◌≢◌, inl, inr, ℕ, ◌+◌, ◌-◌, ◌<◌, ◌≤◌, List, [], ◌∷◌, ◌++◌, length, take, drop, refl, ap, sym, subst, ◌∙◌, arith, append_assoc, append-nil, length-append, length-take, take-append-drop}
 use Rattle.std.proofs.KnownBytes.{Appends-nil}
-use Rattle.std.proofs.lemmas.List.{map-append, length-drop, nil_from_length, take_all}
+use Rattle.std.proofs.lemmas.List.{map-append, length-drop, nil_from_length, take_all, take-append-le}
 use Rattle.std.proofs.lemmas.List.Concat.{flat_map-append}
 use Rattle.sha2.specs.Sha256.{sha256}
 use Rattle.tree_model.specs.Tree.{mth}
@@ -46,10 +46,17 @@ use Rattle.batch_committer.proofs.Grouping.{gather_join, point_block}
 use Rattle.batch_committer.proofs.Ordering.{order_wider}
 use Rattle.batch_committer.proofs.Parting.{TailsAt}
 use Rattle.batch_committer.proofs.Spelling.{told_ended, lines_later}
-use Rattle.batch_committer.proofs.WayLaws.{begins_not, no_fault}
+use Rattle.batch_committer.proofs.WayLaws.{begins_not}
 
-drop_all : {A : Type 0} (xs : List A) → drop (length xs) xs ≡ []
+pub drop_all : {A : Type 0} (xs : List A) → drop (length xs) xs ≡ []
 drop_all xs = nil_from_length (drop (length xs) xs) (omega (arith, length-drop (length xs) xs))
+
+-- what is left of a list whose first were turned behind the others and cut off
+pub rest_left : {A : Type 0} (xs turned cut : List A) (n left : ℕ) → n ≤ length xs → left ≡ length xs - n → turned ≡ drop n xs ++ take n xs → cut ≡ take left turned → cut ≡ drop n xs
+rest_left xs turned cut n left few left_is turned_is cut_is =
+    let rest = drop n xs in
+    let count : left ≡ length rest = left_is ∙ sym (length-drop n xs) in
+    cut_is ∙ ap (λ (m : ℕ). take m turned) count ∙ ap (take (length rest)) turned_is ∙ take-append-le (length rest) rest (take n xs) (omega arith) ∙ take_all (length rest) rest (omega arith)
 
 -- all that is due is spelled, where the open block has ended
 owes_all : (k new : CommitterState) (h : History) → Owes k h → new.dues ≡ k.dues → new.spelled ≡ length k.dues → new.lines ≡ k.lines ++ due_lines (close h) (drop k.spelled k.dues) → Owes new (close h)
@@ -95,13 +102,17 @@ module _ (tells : Bool) (k : CommitterState) (text : List ℕ) (none : (h : Hist
     sofar = [];
     appended = Appends-nil sink.held;
     writes = λ h p. record { done = []; split = append-nil k.dues; kept = tt; text = λ f y z. refl };
-    no_fault = no_fault (world k disks sink);
+    no_fault = record { a = refl; b = refl; sink = (refl, refl) };
   }
 
   pub spell_fits : k.book.size ≡ k.book.sealed → Fits tells (world k disks sink) → Fits tells (world (spelled_all) disks sink)
   spell_fits size f = record { reads = f.reads; edition = f.edition; copy = f.copy; few = f.few; order = f.order; next = f.next; some = f.some; room = f.room; spelled = omega arith; owed = λ some. absurd (omega (arith, some, size)); clear = f.clear }
 
 -- ---- the gathered blocks are committed
+
+-- a sink that holds nothing
+pub no_sink : SinkState
+no_sink = record { held = Some []; faults = 0; idles = 0 }
 
 -- what a call asks for is the same with another sink
 pub fits_any : (tells : Bool) (k : CommitterState) (disks : Pair) (sink other : SinkState) → Fits tells (world k disks sink) → Fits tells (world k disks other)
@@ -303,7 +314,7 @@ module _ (k : CommitterState) (book : books.Kept) (block before text : List ℕ)
     sealed_count : sealed_size h ≡ length (journals_of p.group.stored) + length (journals_of p.group.blocks)
     sealed_count = ap length (ap journals_of p.group.are ∙ flat_map-append (λ (b : List Entry). b) p.group.stored p.group.blocks) ∙ length-append (journals_of p.group.stored) (journals_of p.group.blocks)
 
-    group_then : IsGathering gathered_kept (close h)
+    abbrev group_then : IsGathering gathered_kept (close h)
     group_then =
         let seen = leaves_of (journals_of p.group.stored) in record {
           stored = p.group.stored;
@@ -349,6 +360,7 @@ module _ (k : CommitterState) (book : books.Kept) (block before text : List ℕ)
         }
 
   pub gather_goes : (tells : Bool) (disks : Pair) (sink : SinkState) → Goes tells (world k disks sink) close (λ h. []) (world gathered_kept disks sink)
+  unfolding keeps_then
   gather_goes tells disks sink = record {
     holds = λ h p. record { told = p.told; keeps = keeps_then h p.keeps; disks = p.disks };
     grows = λ h p. grows_close h;
@@ -356,7 +368,7 @@ module _ (k : CommitterState) (book : books.Kept) (block before text : List ℕ)
     sofar = [];
     appended = Appends-nil sink.held;
     writes = λ h p. record { done = []; split = append-nil k.dues; kept = tt; text = λ f y z. refl };
-    no_fault = no_fault (world k disks sink);
+    no_fault = record { a = refl; b = refl; sink = (refl, refl) };
   }
 
 -- what the next call asks for
@@ -369,8 +381,8 @@ gather_fits k new head body room owed head_is body_is size gate in_a edition cop
   few = omega (arith, size);
   order = subst (AreInOrder 64 (body_from new.next + length new.body)) (sym places)
       (order_wider 64 (body_from k.next + length k.body) (body_from new.next + length new.body) k.places f.order (omega (arith, next, ap length none, length-append head body, head_is, ap length body_is)));
-  next = omega (arith, f.next, next, gate, ap length before, length-append k.before ((head ++ body) ++ 1 ∷ []), length-append (head ++ body) (1 ∷ []));
-  some = λ more. omega (arith, ap length before, length-append k.before ((head ++ body) ++ 1 ∷ []), length-append (head ++ body) (1 ∷ []));
+  next = omega (arith, f.next, next, gate, ap length before, length-append (k.before ++ (head ++ body)) (1 ∷ []), length-append k.before (head ++ body));
+  some = λ more. omega (arith, ap length before, length-append (k.before ++ (head ++ body)) (1 ∷ []), length-append k.before (head ++ body));
   room = omega (arith, ended, room);
   spelled = omega (arith, spelled, ap length dues);
   owed = λ some. absurd (omega (arith, some, size));

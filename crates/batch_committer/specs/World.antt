@@ -29,7 +29,7 @@ use Rattle.block_file.specs.Places.{body_from, places_in}
 use Rattle.ledger_open.specs.Places.{places_from, AreInOrder}
 use Rattle.ledger_open.specs.Standing.{floor_behind, Parts, IsErased, PairOpen, IsCleanPair}
 use Rattle.block_file.specs.declared.place.PlaceAt.{PlaceAt}
-use Rattle.batch_committer.specs.declared.ending.TheConstants.{GROUP_BLOCKS}
+use Rattle.batch_committer.specs.declared.open_block.TheConstants.{GROUP_BLOCKS}
 use Rattle.batch_committer.specs.declared.failure.CommitErr.{CommitErr}
 use Rattle.batch_committer.specs.declared.failure.CommitErr.TheVariants.{DiskFault, WriteFault, NoMemory, Closed}
 

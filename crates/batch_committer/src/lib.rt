@@ -5,11 +5,11 @@
 mod commit;
 mod committer;
 mod dues;
-mod ending;
 mod failure;
 mod getting;
 mod giving;
 mod laws;
+mod open_block;
 mod proving;
 mod queries;
 mod taking;

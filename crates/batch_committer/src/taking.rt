@@ -25,9 +25,9 @@ ghost use Rattle.batch_committer.specs.World.{Pair, pair, world, first_kept, Fit
 use crate::CommitErr;
 use crate::commit::commit;
 use crate::dues::spell;
-use crate::ending::{GROUP_BLOCKS, GROUP_BYTES, LAST_GATE, end_open};
 use crate::getting::get;
 use crate::giving::give_up;
+use crate::open_block::{GROUP_BLOCKS, GROUP_BYTES, LAST_GATE, end_open};
 use crate::proving::{extension_of, proof_of};
 use crate::queries::{clue_reply, head_reply};
 use block_file::BlockWriter;
@@ -309,7 +309,7 @@ impl Taking {
             (world self.old (pair (D.state a.old) (D.state b.old)) sink) (λ h. h) (λ h. []) end
             (world self.new (pair (D.state a.new) (D.state b.new)) sink)) }
     {
-        if self.ended == 0 {
+        if self.is_stored() {
             return Ok(());
         }
         commit(&mut self.opened.twin, a, b, self.block.ended())?;
@@ -403,7 +403,7 @@ impl Taking {
             return self.flush(a, b, sink);
         }
         let waiting = self.opened.book.unsealed();
-        if waiting == 0 && self.ended == 0 {
+        if waiting == 0 && self.is_stored() {
             self.settle(a, b, sink)
         } else if waiting < BLOCK_LIMIT {
             Ok(())

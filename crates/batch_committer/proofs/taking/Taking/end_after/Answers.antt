@@ -1,47 +1,60 @@
-use Rattle.std.proofs.Common.{◌+◌, ◌<◌, length, sym, subst, arith, ◌∙◌}
+use Rattle.std.proofs.Common.{◌≡◌, [], length, sym, subst, ◌∙◌, arith}
 use Rattle.ledger_bytes.specs.declared.limits.TheConstants.{BLOCK_LIMIT}
+use Rattle.ledger_model.proofs.GrowLaws.{grows_settled}
 use Rattle.ledger_book.specs.Books.{Serves}
-use Rattle.batch_committer.specs.World.{CommitterState}
+use Rattle.batch_committer.specs.World.{CommitterState, pair}
+use Rattle.batch_committer.proofs.Ending.{no_memory, none_waits}
 use Rattle.batch_committer.proofs.Judging.{on_ok_then}
-use Rattle.batch_committer.proofs.Offering.{due_count, due_goes, due_ended, alone_goes, alone_ended, room_goes, room_empty, if_err_then}
+use Rattle.batch_committer.proofs.Offering.{idle_goes, idle_ended, full_goes, full_ended, alone_ended, room_goes, if_err_then, at_least}
+use Rattle.batch_committer.proofs.WayLaws.{err_is}
 use Rattle.batch_committer.proofs.taking.Taking.end_after.Goals as goal
-
-pub returns-then-closes_after-clause-ok : goal.returns-then-closes_after-clause-ok
-returns-then-closes_after-clause-ok g c =
-    on_ok_then c.settle.result (λ x. alone_goes g.D.Disk.tells _ _ c.args.job.now (sym c.closes_after.ensures ∙ c.if-closes_after.true) x) c.settle.ensures.ok
 
 pub returns-then-closes_after-clause-err : goal.returns-then-closes_after-clause-err
 returns-then-closes_after-clause-err g c =
-    if_err_then c.settle.result (λ end x. alone_ended g.D.Disk.tells _ _ c.args.job.now end (sym c.closes_after.ensures ∙ c.if-closes_after.true) x) c.settle.ensures.err
+    if_err_then c.flush.result (λ end x. alone_ended g.D.Disk.tells _ _ c.args.job.now end (sym c.closes_after.ensures ∙ c.if-closes_after.true) x) c.flush.ensures.err
 
-pub returns-then-waiting-ge-BLOCK_LIMIT-clause-ok : goal.returns-then-waiting-ge-BLOCK_LIMIT-clause-ok
-returns-then-waiting-ge-BLOCK_LIMIT-clause-ok g c =
-    on_ok_then c.settle-then-waiting-ge-BLOCK_LIMIT.result
-    (λ x. due_goes g.D.Disk.tells _ _ c.args.job.now
-    (λ h s. due_count c.unsealed-waiting.result (length h.waiting) (c.unsealed-waiting.ensures.count h (subst (λ (k : CommitterState). Serves k.book h) (sym c.self.view_is) s).stands) c.if-waiting-ge-BLOCK_LIMIT.either) x)
-    c.settle-then-waiting-ge-BLOCK_LIMIT.ensures.ok
+pub returns-then-is_stored-clause-ok : goal.returns-then-is_stored-clause-ok
+returns-then-is_stored-clause-ok g c =
+    let inside : c.self.inside.opened.book.size ≡ c.self.inside.opened.book.sealed = omega (arith, c.unsealed-waiting.ensures.number, c.if-waiting-eq0.true) in
+    let settled = subst (λ (k : CommitterState). k.book.size ≡ k.book.sealed) c.self.view_is inside in
+    on_ok_then c.settle.result (λ x. idle_goes g.D.Disk.tells _ _ c.args.job.now (λ h s. none_waits c.args.self.now.book h settled s) x) c.settle.ensures.ok
 
-pub returns-then-waiting-ge-BLOCK_LIMIT-clause-err : goal.returns-then-waiting-ge-BLOCK_LIMIT-clause-err
-returns-then-waiting-ge-BLOCK_LIMIT-clause-err g c =
-    if_err_then c.settle-then-waiting-ge-BLOCK_LIMIT.result
-    (λ end x. due_ended g.D.Disk.tells _ _ c.args.job.now end
-    (λ h s. due_count c.unsealed-waiting.result (length h.waiting) (c.unsealed-waiting.ensures.count h (subst (λ (k : CommitterState). Serves k.book h) (sym c.self.view_is) s).stands) c.if-waiting-ge-BLOCK_LIMIT.either) x)
-    c.settle-then-waiting-ge-BLOCK_LIMIT.ensures.err
+pub returns-then-is_stored-clause-err : goal.returns-then-is_stored-clause-err
+returns-then-is_stored-clause-err g c =
+    let inside : c.self.inside.opened.book.size ≡ c.self.inside.opened.book.sealed = omega (arith, c.unsealed-waiting.ensures.number, c.if-waiting-eq0.true) in
+    let settled = subst (λ (k : CommitterState). k.book.size ≡ k.book.sealed) c.self.view_is inside in
+    if_err_then c.settle.result (λ end x. idle_ended g.D.Disk.tells _ _ c.args.job.now end (λ h s. none_waits c.args.self.now.book h settled s) x) c.settle.ensures.err
 
-pub returns-else-waiting-ge-BLOCK_LIMIT-clause-ok : goal.returns-else-waiting-ge-BLOCK_LIMIT-clause-ok
-returns-else-waiting-ge-BLOCK_LIMIT-clause-ok g c =
+pub returns-then-waiting-lt-BLOCK_LIMIT-clause-ok : goal.returns-then-waiting-lt-BLOCK_LIMIT-clause-ok
+returns-then-waiting-lt-BLOCK_LIMIT-clause-ok g c =
     room_goes g.D.Disk.tells _ c.args.job.now (sym c.closes_after.ensures ∙ c.if-closes_after.false)
-    (λ h s. omega (arith, c.unsealed-waiting.ensures.count h (subst (λ (k : CommitterState). Serves k.book h) (sym c.self.view_is) s).stands, c.if-waiting-ge-BLOCK_LIMIT.false.1))
+    (λ h s. omega (arith, c.unsealed-waiting.ensures.count h (subst (λ (k : CommitterState). Serves k.book h) (sym c.self.view_is) s).stands, c.if-waiting-lt-BLOCK_LIMIT.true))
 
-pub returns-then-closes_after-clause-room : goal.returns-then-closes_after-clause-room
-returns-then-closes_after-clause-room g c = on_ok_then c.settle.result (λ x. room_empty c.settle.new.self x.0) c.settle.ensures.empty
+pub returns-then-fills_group-clause-ok : goal.returns-then-fills_group-clause-ok
+returns-then-fills_group-clause-ok g c =
+    on_ok_then c.flush-then-fills_group.result
+    (λ x. full_goes g.D.Disk.tells _ _ c.args.job.now
+    (λ h s. at_least BLOCK_LIMIT c.unsealed-waiting.result (length h.waiting) c.if-waiting-lt-BLOCK_LIMIT.false (c.unsealed-waiting.ensures.count h (subst (λ (k : CommitterState). Serves k.book h) (sym c.self.view_is) s).stands)) x)
+    c.flush-then-fills_group.ensures.ok
 
-pub returns-then-waiting-ge-BLOCK_LIMIT-clause-room : goal.returns-then-waiting-ge-BLOCK_LIMIT-clause-room
-returns-then-waiting-ge-BLOCK_LIMIT-clause-room g c =
-    on_ok_then c.settle-then-waiting-ge-BLOCK_LIMIT.result (λ x. room_empty c.settle-then-waiting-ge-BLOCK_LIMIT.new.self x.0) c.settle-then-waiting-ge-BLOCK_LIMIT.ensures.empty
+pub returns-then-fills_group-clause-err : goal.returns-then-fills_group-clause-err
+returns-then-fills_group-clause-err g c =
+    if_err_then c.flush-then-fills_group.result
+    (λ end x. full_ended g.D.Disk.tells _ _ c.args.job.now end
+    (λ h s. at_least BLOCK_LIMIT c.unsealed-waiting.result (length h.waiting) c.if-waiting-lt-BLOCK_LIMIT.false (c.unsealed-waiting.ensures.count h (subst (λ (k : CommitterState). Serves k.book h) (sym c.self.view_is) s).stands)) x)
+    c.flush-then-fills_group.ensures.err
 
-pub returns-else-waiting-ge-BLOCK_LIMIT-clause-room : goal.returns-else-waiting-ge-BLOCK_LIMIT-clause-room
-returns-else-waiting-ge-BLOCK_LIMIT-clause-room g c = (
-  subst (λ (k : CommitterState). k.book.size < k.book.sealed + BLOCK_LIMIT) c.self.view_is (omega (arith, c.unsealed-waiting.ensures.number, c.if-waiting-ge-BLOCK_LIMIT.false.1)),
-  c.requires.gathers (sym c.closes_after.ensures ∙ c.if-closes_after.false),
-)
+pub returns-in_err-end_block-clause-err : goal.returns-in_err-end_block-clause-err
+returns-in_err-end_block-clause-err g c =
+    err_is _ c.from_residual.result _ c.from_residual.ensures.1 (no_memory g.D.Disk.tells _ _ _ (λ h. []) (λ h p. grows_settled c.args.job.now h))
+
+pub returns-in_ok-end_block-clause-ok : goal.returns-in_ok-end_block-clause-ok
+returns-in_ok-end_block-clause-ok g c =
+    let disks = pair (g.D.Disk.state c.args.a.now) (g.D.Disk.state c.args.b.now) in
+    full_goes g.D.Disk.tells _ _ c.args.job.now
+    (λ h s. at_least BLOCK_LIMIT c.unsealed-waiting.result (length h.waiting) c.if-waiting-lt-BLOCK_LIMIT.false (c.unsealed-waiting.ensures.count h (subst (λ (k : CommitterState). Serves k.book h) (sym c.self.view_is) s).stands))
+    (c.in_ok-end_block.ensures.ok g.D.Disk.tells disks (g.K.Sink.state c.args.sink.now))
+
+pub returns-in_ok-end_block-clause-fits : goal.returns-in_ok-end_block-clause-fits
+returns-in_ok-end_block-clause-fits g c =
+    c.in_ok-end_block.ensures.fits g.D.Disk.tells (pair (g.D.Disk.state c.args.a.now) (g.D.Disk.state c.args.b.now)) (g.K.Sink.state c.args.sink.now) c.requires.fits

@@ -1,4 +1,4 @@
-use Rattle.std.proofs.Common.{true, inl, inr, ◌++◌, ◌∷◌, [], ap, sym, ◌∙◌}
+use Rattle.std.proofs.Common.{true, inl, inr, ◌++◌, ◌∷◌, [], ap, sym, subst, ◌∙◌}
 use Rattle.ledger_model.specs.Anchors.{stamp_of}
 use Rattle.ledger_model.specs.Limits.{real_limits}
 use Rattle.ledger_model.specs.Outcomes.{with_job}

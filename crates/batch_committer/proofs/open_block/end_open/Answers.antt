@@ -6,7 +6,7 @@ use Rattle.ledger_model.proofs.GrowLaws.{close_none, size_close, size_closed}
 use Rattle.batch_committer.specs.Steps.{AreLastFrom}
 use Rattle.batch_committer.proofs.Ending.{block_spelled, serves_closed}
 use Rattle.batch_committer.proofs.Spelling.{last_closed, dues_kept}
-use Rattle.batch_committer.proofs.ending.end_open.Goals as goal
+use Rattle.batch_committer.proofs.open_block.end_open.Goals as goal
 
 pub returns-in_err-spell-clause-serves : goal.returns-in_err-spell-clause-serves
 returns-in_err-spell-clause-serves c = λ h s. serves_closed c.args.book.now c.seal.new.self h s (c.seal.ensures.stands h s.stands) c.seal.ensures.same
