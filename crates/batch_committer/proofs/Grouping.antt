@@ -141,8 +141,13 @@ module _ (image : List ℕ) (h : History) (b : List Entry) (x : IsErased image h
 
   number : (from).first + length (journals_of x.keeps.blocks) ≡ size h
   number =
-      omega (arith, floor_first h x.parts.gone, x.parts.at, size_parts (point h) h x.none x.parts,
-      count_kept (is_hidden h) (is_hidden h) (journals_of x.parts.kept) (journals_of x.keeps.blocks) (all_kept (is_hidden h) (is_hidden h) x.parts.kept x.keeps.blocks x.keeps.same))
+      omega (
+        arith,
+        floor_first h x.parts.gone,
+        x.parts.at,
+        size_parts (point h) h x.none x.parts,
+        count_kept (is_hidden h) (is_hidden h) (journals_of x.parts.kept) (journals_of x.keeps.blocks) (all_kept (is_hidden h) (is_hidden h) x.parts.kept x.keeps.blocks x.keeps.same),
+      )
 
   pub floor_same : floor_behind more x.parts.gone ≡ from
   floor_same = floor_kept h b x.none n.entries.some x.parts.gone (omega (arith, x.parts.at, size_parts (point h) h x.none x.parts)) (omega (arith, some_journal (journals h) x.lawful.journals_are))

@@ -20,7 +20,7 @@ use Rattle.ledger_model.specs.Texts.{answer_to}
 use Rattle.ledger_model.specs.declared.answer.Answer.{Answer}
 use Rattle.ledger_model.specs.declared.due.Due.{Due}
 use Rattle.ledger_model.specs.declared.job.Job.{Job}
-use Rattle.ledger_model.proofs.GrowLaws.{grows_settled, grows_then, grows_with, grows_after, settled_none}
+use Rattle.ledger_model.proofs.GrowLaws.{grows_settled, grows_then, grows_with, grows_after, close_settled, settled_none}
 use Rattle.ledger_model.proofs.WaitLaws.{Waits, waits_job, waits_closed, all_still_waiting, waiting-append, answer_waits}
 use Rattle.ledger_book.specs.Books.{Serves}
 use Rattle.ledger_book.proofs.OpenLaws.{opens_empty}
@@ -86,6 +86,12 @@ module _ (tells : Bool) (w m n t : World) (step : Step) (job : Job) where
 
 abbrev due_at : Step → Answer → Due
 due_at step answer = record { lane = step.lane; index = step.index; answer = answer }
+
+-- by a value that is known by an equation, and what is due came behind
+pub file_to : {old : CommitterState} (k0 k1 : CommitterState) (ds : List Due) → k1 ≡ k0 → KeepsFile old k0 → KeepsFile old (record k1 { dues = ds })
+file_to {old} k0 k1 ds is f =
+    let x = subst (KeepsFile old) (sym is) f in
+    record { gate = x.gate; ended = x.ended; next = x.next; in_a = x.in_a; edition = x.edition; copy = x.copy }
 
 -- what is due with one more
 owes_more : (k new : CommitterState) (g f : History) (due : Due) → Owes k g → Waits g f → IsWaiting f due.answer → new.dues ≡ k.dues ++ due ∷ [] → new.spelled ≡ k.spelled → new.lines ≡ k.lines → Owes new f
@@ -219,6 +225,13 @@ idle_ended tells w t job end none x = ended_as tells w t (λ h. h) (settled_hist
 
 pub at_least : (most count waiting : ℕ) → most ≤ count → count ≡ waiting → most ≤ waiting
 at_least most count waiting le is = subst (λ (n : ℕ). most ≤ n) is le
+
+-- .. so that its end changes nothing
+pub settle_goes : (tells : Bool) (w t : World) → ((h : History) → Serves w.kept.book h → h.waiting ≡ []) → Goes tells w (λ h. h) (λ h. []) t → Goes tells w close (λ h. []) t
+settle_goes tells w t none x = goes_as tells w t (λ h. h) close (λ h. []) (λ h. []) (λ h p. close_settled h (none h p.keeps.serves)) (λ h p. refl) x
+
+pub settle_ended : (tells : Bool) (w t : World) (end : CommitErr) → ((h : History) → Serves w.kept.book h → h.waiting ≡ []) → EndsOnTheWay tells w (λ h. h) (λ h. []) end t → EndsOnTheWay tells w close (λ h. []) end t
+settle_ended tells w t end none x = ended_as tells w t (λ h. h) close (λ h. []) (λ h. []) end (λ h p. close_settled h (none h p.keeps.serves)) (λ h p. refl) x
 
 -- the block that is full ends
 pub full_goes : (tells : Bool) (w t : World) (job : Job) → ((h : History) → Serves w.kept.book h → BLOCK_LIMIT ≤ length h.waiting) → Goes tells w close (λ h. []) t → Goes tells w (settled_history job) (λ h. []) t

@@ -110,6 +110,10 @@ module _ (tells : Bool) (k : CommitterState) (text : List ℕ) (none : (h : Hist
 
 -- ---- the gathered blocks are committed
 
+-- the tail gate stands where the open block's was to stand
+pub gate_then : (gate : ℕ) (before bytes : List ℕ) → bytes ≡ take (length before - 1) before → 1 ≤ length before → gate + 1 + length bytes ≡ gate + length before
+gate_then gate before bytes is some = omega (arith, ap length is, length-take (length before - 1) before, some)
+
 -- a sink that holds nothing
 pub no_sink : SinkState
 no_sink = record { held = Some []; faults = 0; idles = 0 }
@@ -370,6 +374,13 @@ module _ (k : CommitterState) (book : books.Kept) (block before text : List ℕ)
     writes = λ h p. record { done = []; split = append-nil k.dues; kept = tt; text = λ f y z. refl };
     no_fault = record { a = refl; b = refl; sink = (refl, refl) };
   }
+
+-- how many journals wait
+pub some_wait : (b : books.Kept) (h : History) → Serves b h → b.sealed < b.size → 1 ≤ length h.waiting
+some_wait b h s some = omega (arith, some, s.stands.counts.size, s.stands.counts.sealed_is, length-append (journals_of h.closed) h.waiting)
+
+pub few_wait : (b : books.Kept) (h : History) → Serves b h → b.size ≤ b.sealed + BLOCK_LIMIT → length h.waiting ≤ BLOCK_LIMIT
+few_wait b h s few = omega (arith, few, s.stands.counts.size, s.stands.counts.sealed_is, length-append (journals_of h.closed) h.waiting)
 
 -- what the next call asks for
 pub gather_fits : (k new : CommitterState) (head body : List ℕ) → k.ended + 1 < 64 → k.spelled < length k.dues → length head ≡ 44 → body ≡ k.body → new.book.size ≡ new.book.sealed → new.gate ≡ k.gate → new.in_a ≡ k.in_a → new.edition ≡ k.edition → new.copy ≡ k.copy → new.ended ≡ k.ended + 1 → new.before ≡ k.before ++ (head ++ body) ++ 1 ∷ []

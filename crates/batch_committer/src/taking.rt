@@ -132,6 +132,14 @@ impl Taking {
         self.ended == 0
     }
 
+    // How many journals wait in the open block.
+    fn unsealed(&self) -> u64
+        ensures count { (h : History) → Serves self.now.book h → result ≡ length h.waiting }
+        ensures number { self.now.book.sealed + result ≡ self.now.book.size }
+    {
+        self.opened.book.unsealed()
+    }
+
     /// The ledger's id.
     pub(crate) fn id(&self) -> Digest
         ensures { (h : History) → Keeps self.now h → result.0 ≡ id h }
@@ -196,7 +204,7 @@ impl Taking {
             close (λ h. []) end
             (world self.new (pair (D.state a.new) (D.state b.new)) (K.state sink.new))) }
     {
-        let waiting = self.opened.book.unsealed();
+        let waiting = self.unsealed();
         if waiting == 0 {
             return self.settle(a, b, sink);
         }
@@ -280,7 +288,7 @@ impl Taking {
         ensures all { OnOk result (self.old.book.size ≡ self.old.book.sealed
             → self.new.spelled ≡ length self.old.dues) }
     {
-        let waiting = self.opened.book.unsealed();
+        let waiting = self.unsealed();
         if waiting > 0 {
             return Ok(());
         }
@@ -402,7 +410,7 @@ impl Taking {
         if job.closes_after() {
             return self.flush(a, b, sink);
         }
-        let waiting = self.opened.book.unsealed();
+        let waiting = self.unsealed();
         if waiting == 0 && self.is_stored() {
             self.settle(a, b, sink)
         } else if waiting < BLOCK_LIMIT {
@@ -632,6 +640,7 @@ impl Taking {
             → journal.content ≡ content → journal.who ≡ who_of given
             → IsGathered self.old self.new journal) }
         ensures order { OnOk result (StaysInOrder self.old self.new) }
+        ensures before { OnOk result (self.new.before ≡ self.old.before) }
         ensures book { self.new.book ≡ self.old.book }
         ensures rest { KeepsRest self.old self.new }
     {
@@ -669,6 +678,7 @@ impl Taking {
             → journal.content ≡ content.now → journal.who ≡ who_of given.now
             → IsGathered self.old self.new journal) }
         ensures order { OnOk result (StaysInOrder self.old self.new) }
+        ensures before { OnOk result (self.new.before ≡ self.old.before) }
         ensures book { self.new.book ≡ self.old.book }
         ensures rest { KeepsRest self.old self.new }
     {

@@ -1,4 +1,4 @@
-use Rattle.std.proofs.Common.{true, inl, inr, ◌++◌, ◌∷◌, [], ap, sym, subst, ◌∙◌}
+use Rattle.std.proofs.Common.{true, inl, inr, ◌++◌, ◌∷◌, [], ap, sym, ◌∙◌}
 use Rattle.ledger_model.specs.Anchors.{stamp_of}
 use Rattle.ledger_model.specs.Limits.{real_limits}
 use Rattle.ledger_model.specs.Outcomes.{with_job}
@@ -6,10 +6,9 @@ use Rattle.ledger_model.specs.declared.due.Due.{Due}
 use Rattle.ledger_model.proofs.GrowLaws.{grows_with}
 use Rattle.ledger_book.proofs.StandsLaws.{none_waits}
 use Rattle.batch_committer.specs.Attending.{step_in}
-use Rattle.batch_committer.specs.Steps.{KeepsFile}
 use Rattle.batch_committer.specs.World.{CommitterState, world, pair}
 use Rattle.batch_committer.specs.declared.failure.CommitErr.TheVariants.{NoMemory}
-use Rattle.batch_committer.proofs.Offering.{judged_goes, judged_read, unjudged_ended}
+use Rattle.batch_committer.proofs.Offering.{file_to, judged_goes, judged_read, unjudged_ended}
 use Rattle.batch_committer.proofs.Judging.{judged_dues}
 use Rattle.batch_committer.proofs.ReadLaws.{read_ended}
 use Rattle.batch_committer.proofs.WayLaws.{err_is}
@@ -67,7 +66,7 @@ returns-clause-ok g c =
             goes =
                 judged_read g.D.Disk.tells _ _ old _ sink step i.job e.read e.no_fault
                 (judged_goes g.D.Disk.tells (world c.args.self.now old sink) _ step i.job c.in_ok-answer.answer
-                (subst (λ (k : CommitterState). KeepsFile c.args.self.now k) (sym c.self.view_is) e.rest.file)
+                (file_to c.judge.new.self _ c.push.new.self.items c.self.view_is e.rest.file)
                 (c.in-Ok.ensures.items ∙ ap (λ (k : CommitterState). k.dues ++ due ∷ []) c.self.view_is ∙ ap (λ ds. ds ++ due ∷ []) e.rest.dues)
                 (ap (λ (k : CommitterState). k.spelled) c.self.view_is ∙ e.rest.spelled) (ap (λ (k : CommitterState). k.lines) c.self.view_is ∙ e.rest.lines)
                 (λ closes h s. none_waits _ h s.stands (sym (c.requires.settled closes).0))
