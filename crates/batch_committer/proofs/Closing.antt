@@ -1,24 +1,23 @@
 -- What a block's end does to a history, to what is kept of it, and to what the disks may leave.
-use Rattle.std.specs.Prelude.{All, Bool, true, false, sum_by}
-use Rattle.std.proofs.Common.{◌≡◌, ◌⊎◌, inl, inr, ℕ, ◌+◌, ◌≤◌, List, [], ◌∷◌, ◌++◌, length, map, refl, ap, sym, subst, ◌∙◌, arith, append_assoc, append-nil, length-append}
+use Rattle.std.specs.Prelude.{Bool, true, false, sum_by}
+use Rattle.std.proofs.Common.{◌≡◌, ◌⊎◌, inl, ℕ, ◌+◌, ◌≤◌, List, [], ◌∷◌, ◌++◌, length, map, refl, ap, sym, subst, ◌∙◌, arith, append_assoc, append-nil, length-append}
 use Rattle.std.proofs.lemmas.List.{map-append, length-map, nil_from_length, take_all}
-use Rattle.std.proofs.lemmas.List.Concat.{flat_map-append}
 use Rattle.std.proofs.lemmas.List.Sums.{sum_by-cons}
 use Rattle.sha2.specs.Sha256.{sha256}
 use Rattle.tree_model.specs.Tree.{mth}
 use Rattle.ledger_bytes.specs.declared.limits.TheConstants.{BLOCK_LIMIT}
-use Rattle.journal_record.specs.Blocks.{body_of, block_bytes, leaves_of, written_blocks, AreFrom}
+use Rattle.journal_record.specs.Blocks.{body_of, leaves_of, written_blocks, AreFrom}
 use Rattle.journal_record.specs.Entry.{Entry}
 use Rattle.journal_record.specs.Header.{spelling}
 use Rattle.block_file.specs.Head.{version_in}
 use Rattle.block_file.specs.declared.block.TheConstants.{BLOCK_HEAD_LEN}
-use Rattle.block_file.specs.File.{IsFileOf, tail_of, open_blocks, IsSettled, HasBlock}
+use Rattle.block_file.specs.File.{IsFileOf, tail_of, open_blocks}
 use Rattle.ledger_disk.proofs.Guarding.{settled_image}
 use Rattle.ledger_disk.specs.Disk.{State, MayLeave, settled_state}
 use Rattle.ledger_model.specs.declared.due.Due.{Due}
 use Rattle.ledger_model.specs.History.{History, history, journals, journals_of, size, leaves, root, point, close, close_by}
 use Rattle.ledger_model.specs.Targets.{is_hidden}
-use Rattle.ledger_model.specs.Lawful.{AreNext, IsBlock}
+use Rattle.ledger_model.specs.Lawful.{AreNext}
 use Rattle.ledger_model.proofs.GrowLaws.{close_none, size_closed}
 use Rattle.ledger_model.proofs.KeepLaws.{journals_close}
 use Rattle.ledger_book.specs.Books.{sealed_size}
@@ -26,19 +25,17 @@ use Rattle.twin_file.specs.Twin.{open_of, other_of}
 use Rattle.ledger_open.specs.Cutting.{gate_behind}
 use Rattle.ledger_open.specs.Growing.{with_block, IsNextBlock}
 use Rattle.block_file.specs.Places.{body_from, record_len, place_at, places_in, places_at, after_at}
-use Rattle.ledger_open.specs.Places.{places_from}
 use Rattle.block_file.specs.declared.place.PlaceAt.{PlaceAt}
-use Rattle.ledger_open.specs.Standing.{Floor, floor_behind, hidden_before, point_before, Parts, StandsBy, StandsFor, IsErased, IsClean, PairFor, PairOpen, IsCleanPair}
-use Rattle.ledger_open.proofs.FloorLaws.{floor_root, floor_digests, floor_kept}
-use Rattle.ledger_open.proofs.GrowLaws.{erased_stands, grown, begins}
-use Rattle.ledger_open.proofs.KeptLaws.{header_map_same, all_kept}
+use Rattle.ledger_open.specs.Standing.{floor_behind, hidden_before, point_before, StandsBy, StandsFor, IsErased, IsClean, PairFor, PairOpen, IsCleanPair}
+use Rattle.ledger_open.proofs.FloorLaws.{floor_digests}
+use Rattle.ledger_open.proofs.GrowLaws.{erased_stands, begins}
 use Rattle.ledger_open.proofs.PlaceLaws.{after_kept, tail_place}
 use Rattle.ledger_open.proofs.SizeLaws.{mth_size, block_size, body_size, readable}
 use Rattle.batch_committer.specs.Steps.{last_bytes}
 use Rattle.batch_committer.specs.declared.failure.CommitErr.{CommitErr}
 use Rattle.batch_committer.specs.declared.failure.CommitErr.TheVariants.{DiskFault, WriteFault, NoMemory, Closed}
-use Rattle.batch_committer.specs.World.{CommitterState, World, Pair, Keeps, IsCleanFor, Holds, IsErasedPair, IsLeftClean, sealed_part}
-use Rattle.batch_committer.proofs.Parting.{TailsAt, tails_at, gone_few}
+use Rattle.batch_committer.specs.World.{CommitterState, Keeps, IsCleanFor, IsErasedPair, IsLeftClean, sealed_part}
+use Rattle.batch_committer.proofs.Parting.{TailsAt}
 
 -- ---- the history
 

@@ -12,7 +12,6 @@ use Rattle.sha2.specs.Sha256.{sha256}
 use Rattle.tree_model.specs.Tree.{mth}
 use Rattle.ledger_bytes.specs.Begins.{Begins}
 use Rattle.ledger_bytes.specs.declared.limits.TheConstants.{BLOCK_LIMIT}
-use Rattle.merkle_tree.specs.declared.head.Head.{Head}
 use Rattle.journal_record.specs.Blocks.{body_of, block_bytes, AreFrom}
 use Rattle.ledger_io.specs.Outside.{SinkState, MeetsNone, MeetsOne}
 use Rattle.ledger_io.specs.Writing.{WritesFirst}
@@ -28,7 +27,6 @@ use Rattle.ledger_model.proofs.GrowLaws.{grows_close, close_none}
 use Rattle.ledger_model.proofs.WaitLaws.{begins_closed}
 use Rattle.ledger_book.specs.Books as books
 use Rattle.ledger_book.specs.Books.{Stands, Serves, sealed_size}
-use Rattle.ledger_book.specs.Seals as seals
 use Rattle.ledger_book.specs.Steps.{IsSame}
 use Rattle.twin_file.specs.Twin.{open_of}
 use Rattle.ledger_open.proofs.OldLaws.{same_edition}

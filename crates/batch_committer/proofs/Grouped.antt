@@ -1,5 +1,5 @@
 -- The blocks that a committer has gathered, behind those that are stored.
-use Rattle.std.specs.Prelude.{All, Bool, true, false}
+use Rattle.std.specs.Prelude.{All, Bool}
 use Rattle.std.proofs.Common.{◌≡◌, ◌⊎◌, inl, inr, ℕ, ◌+◌, ◌-◌, ◌≤◌, List, [], ◌∷◌, ◌++◌, length, take, drop, refl, ap, sym, subst, ◌∙◌, arith, append_assoc, append-nil, length-append}
 use Rattle.std.proofs.lemmas.List.{take_all, take-append-le, take-append-drop}
 use Rattle.std.proofs.lemmas.List.Concat.{flat_map-append}
@@ -12,16 +12,13 @@ use Rattle.journal_record.specs.Blocks as record_
 use Rattle.journal_record.specs.Entry.{Entry}
 use Rattle.block_file.specs.File.{IsFileOf, IsGroupOf, HasGroup, tail_of, IsSettled}
 use Rattle.block_file.specs.Places.{body_from, places_in}
-use Rattle.block_file.specs.Writing.{ended_blocks}
-use Rattle.ledger_disk.specs.Disk.{State, MayLeave, settled_state}
-use Rattle.ledger_model.specs.Growing.{Grows}
-use Rattle.ledger_model.specs.History.{History, history, journals, journals_of, size, leaves, point, close}
+use Rattle.ledger_disk.specs.Disk.{MayLeave, settled_state}
+use Rattle.ledger_model.specs.History.{History, history, journals, journals_of, size, point, close}
 use Rattle.ledger_model.specs.Lawful.{AreNext, IsBlock}
 use Rattle.ledger_model.specs.Targets.{is_hidden}
 use Rattle.ledger_model.proofs.BaseLaws.{front_next}
 use Rattle.ledger_model.proofs.GrowLaws.{size_closed}
 use Rattle.ledger_model.proofs.LawfulLaws.{some_journal}
-use Rattle.ledger_model.proofs.WaitLaws.{begins_closed}
 use Rattle.twin_file.specs.Twin.{open_of, other_of}
 use Rattle.ledger_open.specs.Cutting.{gate_behind}
 use Rattle.ledger_open.specs.Places.{places_from}
@@ -31,7 +28,7 @@ use Rattle.ledger_open.proofs.GrowLaws.{erased_stands, grown, begins}
 use Rattle.batch_committer.specs.Committed.{IsCommitted, IsUncommitted, open_bytes}
 use Rattle.batch_committer.specs.Steps.{last_bytes}
 use Rattle.batch_committer.specs.World.{CommitterState, World, Pair, IsGathering, Keeps, Holds, IsErasedPair, sealed_part, stored_part}
-use Rattle.batch_committer.proofs.Closing.{close_is, closed_is, sealed_close, leaves_parts, next_rest, next_block_is, tail_at, stands_from, erased_of, pair_alone, open_left, places_more, after_more, bytes_len}
+use Rattle.batch_committer.proofs.Closing.{closed_is, sealed_close, leaves_parts, next_rest, next_block_is, tail_at, stands_from, erased_of, pair_alone, open_left, places_more, after_more, bytes_len}
 use Rattle.batch_committer.proofs.Grouping.{IsErasedBy, AreNextAll, with_blocks, bytes_behind, next_all, point_all, floor_all, more_all, erased_by}
 use Rattle.batch_committer.proofs.Parting.{TailsAt, tails_at, gone_few}
 

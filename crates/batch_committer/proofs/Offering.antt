@@ -244,9 +244,6 @@ pub room_goes : (tells : Bool) (w : World) (job : Job) → closes_after job ≡ 
 room_goes tells w job other few = goes_as tells w w (λ h. h) (settled_history job) (λ h. []) (λ h. []) (λ h p. settled_room job h other (few h p.keeps.serves)) (λ h p. refl) (goes_same tells w)
 
 -- the block of the job alone ends
-pub alone_goes : (tells : Bool) (w t : World) (job : Job) → closes_after job ≡ true → Goes tells w close (λ h. []) t → Goes tells w (settled_history job) (λ h. []) t
-alone_goes tells w t job alone x = goes_as tells w t close (settled_history job) (λ h. []) (λ h. []) (λ h p. settled_alone job h alone) (λ h p. refl) x
-
 pub alone_ended : (tells : Bool) (w t : World) (job : Job) (end : CommitErr) → closes_after job ≡ true → EndsOnTheWay tells w close (λ h. []) end t → EndsOnTheWay tells w (settled_history job) (λ h. []) end t
 alone_ended tells w t job end alone x = ended_as tells w t close (settled_history job) (λ h. []) (λ h. []) end (λ h p. settled_alone job h alone) (λ h p. refl) x
 

@@ -1,5 +1,5 @@
 -- Blocks are gathered, committed without a new end, and what is due for them is written.
-use Rattle.std.specs.Prelude.{Bool, true, false, IsTrue, Some, None}
+use Rattle.std.specs.Prelude.{Bool, Some}
 use Rattle.std.specs.Io.KnownBytes.{Appends}
 use Rattle.std.proofs.Common.{◌≡◌, ◌≢◌, inl, inr, ℕ, ◌+◌, ◌-◌, ◌<◌, ◌≤◌, List, [], ◌∷◌, ◌++◌, length, take, drop, refl, ap, sym, subst, ◌∙◌, arith, append_assoc, append-nil, length-append, length-take, take-append-drop}
 use Rattle.std.proofs.KnownBytes.{Appends-nil}
@@ -9,22 +9,17 @@ use Rattle.sha2.specs.Sha256.{sha256}
 use Rattle.tree_model.specs.Tree.{mth}
 use Rattle.ledger_bytes.specs.Begins.{Begins}
 use Rattle.ledger_bytes.specs.declared.limits.TheConstants.{BLOCK_LIMIT}
-use Rattle.journal_record.specs.Blocks.{body_of, block_bytes, leaves_of, written_blocks, AreFrom, IsBlock}
+use Rattle.journal_record.specs.Blocks.{body_of, block_bytes, leaves_of, AreFrom}
 use Rattle.journal_record.specs.Entry.{Entry}
 use Rattle.journal_record.specs.Header.{spelling}
 use Rattle.block_file.specs.File.{IsGroupOf}
-use Rattle.block_file.specs.Head.{version_in}
 use Rattle.block_file.specs.Places.{body_from, places_in}
 use Rattle.block_file.specs.Writing.{ended_blocks}
-use Rattle.block_file.specs.declared.place.PlaceAt.{PlaceAt}
 use Rattle.ledger_io.specs.Outside.{SinkState, MeetsNone, MeetsOne}
 use Rattle.ledger_model.specs.Dues.{due_lines, AllWaiting, AllIn}
-use Rattle.ledger_model.specs.Growing.{Grows}
 use Rattle.ledger_model.specs.History.{History, history, journals_of, leaves, point, close}
 use Rattle.ledger_model.specs.Lawful.{AllGather}
-use Rattle.ledger_model.specs.declared.due.Due.{Due}
 use Rattle.ledger_model.proofs.GrowLaws.{grows_not, grows_close, close_none, close_settled}
-use Rattle.ledger_model.proofs.WaitLaws.{begins_closed}
 use Rattle.ledger_book.specs.Books as books
 use Rattle.ledger_book.specs.Books.{Serves, sealed_size}
 use Rattle.ledger_book.specs.Steps.{IsSame}
@@ -37,9 +32,9 @@ use Rattle.ledger_open.proofs.GrowLaws.{blocks_more, written_more}
 use Rattle.ledger_open.proofs.OldLaws.{same_edition}
 use Rattle.batch_committer.specs.Committed.{IsCommitted, IsUncommitted}
 use Rattle.batch_committer.specs.Steps.{last_bytes}
-use Rattle.batch_committer.specs.World.{CommitterState, World, Pair, world, ReadsAsLeft, Fits, IsGathering, Located, Owes, Keeps, IsCleanFor, Holds, Writes, Goes, LeftAtTheEnd, EndsOnTheWay, sealed_part, stored_part}
+use Rattle.batch_committer.specs.World.{CommitterState, Pair, world, ReadsAsLeft, Fits, IsGathering, Located, Owes, Keeps, IsCleanFor, Holds, Goes, LeftAtTheEnd, EndsOnTheWay, sealed_part, stored_part}
 use Rattle.batch_committer.specs.declared.failure.CommitErr.TheVariants.{DiskFault, WriteFault}
-use Rattle.batch_committer.proofs.Closing.{closed_is, sealed_close, leaves_parts, clean_image, clean_pair, left_clean, places_more, after_more, bytes_len}
+use Rattle.batch_committer.proofs.Closing.{closed_is, sealed_close, leaves_parts, clean_image, clean_pair, places_more, after_more, bytes_len}
 use Rattle.batch_committer.proofs.Ending.{stored_of, group_same, located_same, says_first, edition_stays}
 use Rattle.batch_committer.proofs.Grouped.{stored_split, stored_all, stored_begins, stored_stays, none_gathered, written_count, group_of, located_held, group_quiet, group_erased, group_left, tails_held}
 use Rattle.batch_committer.proofs.Grouping.{gather_join, point_block}
@@ -104,9 +99,6 @@ module _ (tells : Bool) (k : CommitterState) (text : List ℕ) (none : (h : Hist
     writes = λ h p. record { done = []; split = append-nil k.dues; kept = tt; text = λ f y z. refl };
     no_fault = record { a = refl; b = refl; sink = (refl, refl) };
   }
-
-  pub spell_fits : k.book.size ≡ k.book.sealed → Fits tells (world k disks sink) → Fits tells (world (spelled_all) disks sink)
-  spell_fits size f = record { reads = f.reads; edition = f.edition; copy = f.copy; few = f.few; order = f.order; next = f.next; some = f.some; room = f.room; spelled = omega arith; owed = λ some. absurd (omega (arith, some, size)); clear = f.clear }
 
 -- ---- the gathered blocks are committed
 

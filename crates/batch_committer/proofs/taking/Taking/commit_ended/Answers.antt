@@ -1,7 +1,6 @@
-use Rattle.std.proofs.Common.{◌≡◌, ◌≢◌, ◌+◌, [], length, true, false, Some, sym, ap, subst, ◌∙◌}
+use Rattle.std.proofs.Common.{◌≢◌, [], sym, ap, subst, ◌∙◌}
 use Rattle.std.proofs.lemmas.Bool.{true≢false}
 use Rattle.block_file.specs.File.{IsGroupOf}
-use Rattle.ledger_io.specs.Outside.{SinkState}
 use Rattle.batch_committer.specs.Committed.{IsCommitted, IsUncommitted}
 use Rattle.batch_committer.specs.World.{CommitterState, pair}
 use Rattle.batch_committer.specs.contracts.taking.Taking.{the_view}

@@ -1,5 +1,5 @@
 use Rattle.std.proofs.Common.{◌≡◌, ◌+◌, [], ◌++◌, drop, sym, ap, subst, ◌∙◌, arith}
-use Rattle.ledger_model.specs.History.{History, close}
+use Rattle.ledger_model.specs.History.{close}
 use Rattle.ledger_book.specs.Books.{Serves}
 use Rattle.ledger_open.specs.Places.{AreInOrder}
 use Rattle.ledger_open.proofs.FinishedLaws.{twin_stays}

@@ -1,6 +1,6 @@
-use Rattle.std.proofs.Common.{◌≡◌, [], drop, length, sym, ap, subst, ◌∙◌}
+use Rattle.std.proofs.Common.{[], drop, length, sym, ap, subst, ◌∙◌}
 use Rattle.ledger_model.proofs.GrowLaws.{grows_not}
-use Rattle.batch_committer.specs.World.{CommitterState, HasRoom, world, pair}
+use Rattle.batch_committer.specs.World.{CommitterState, HasRoom, pair}
 use Rattle.batch_committer.proofs.Ending.{no_memory, fits_at}
 use Rattle.batch_committer.proofs.Judging.{on_ok_then}
 use Rattle.batch_committer.proofs.Offering.{if_err_then}

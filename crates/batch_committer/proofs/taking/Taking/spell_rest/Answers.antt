@@ -1,8 +1,8 @@
 use Rattle.std.proofs.Common.{◌≡◌, [], drop, sym, ap, subst, ◌∙◌, arith}
-use Rattle.batch_committer.specs.World.{CommitterState, Keeps}
+use Rattle.batch_committer.specs.World.{CommitterState}
 use Rattle.batch_committer.specs.contracts.taking.Taking.{the_view}
-use Rattle.batch_committer.proofs.Ending.{fits_at, goes_at, goes_to, none_waits}
-use Rattle.batch_committer.proofs.Settling.{spell_goes, spell_fits}
+use Rattle.batch_committer.proofs.Ending.{goes_at, goes_to, none_waits}
+use Rattle.batch_committer.proofs.Settling.{spell_goes}
 use Rattle.batch_committer.proofs.Spelling.{spelled_settled}
 use Rattle.batch_committer.proofs.WayLaws.{goes_same}
 use Rattle.batch_committer.proofs.taking.Taking.spell_rest.Goals as goal
