@@ -3,8 +3,9 @@ use Rattle.std.specs.Prelude.{IsTrue}
 use Rattle.std.proofs.Common.{◌≡◌, ℕ, inl, Bool, List, [], Option, None, refl, sym, subst}
 use Rattle.std.proofs.KnownBytes.{Appends-nil}
 use Rattle.std.specs.Io.KnownBytes.{Appends}
-use Rattle.batch_committer.specs.Opened.{kept_from, IsOpened}
+use Rattle.batch_committer.specs.Opened.{kept_from, IsOpened, IsQuietFor}
 use Rattle.batch_committer.specs.World.{Pair, pair, world}
+use Rattle.batch_committer.proofs.Grouped.{stored_whole}
 use Rattle.batch_committer.proofs.Opening.{opened_held, held_quiet}
 use Rattle.batch_committer.proofs.ReadLaws.{read_as_held}
 use Rattle.journal_record.specs.Entry.{Entry}
@@ -117,13 +118,13 @@ opened_writes tells source s sink t n m old now last k in_a start blocks opened 
       let held = opened_held tells k in_a (edition_from 2 0) start blocks old.a.bytes old.b.bytes now sink h opened limits told (r told) p in
       let none = none_waits old.a.bytes.seen old.b.bytes.seen h p in
       let reads : IsReadAs k.book k.places (open_of in_a now.a now.b).bytes.seen h =
-      subst (λ (s : State). IsReadAs k.book k.places s.seen h) (sym (open_bytes in_a now.a now.b)) (read_as_held tells (kept_from k in_a (edition_from 2 0)) now sink h held none in_a refl) in
+      subst (λ (s : State). IsReadAs k.book k.places s.seen h) (sym (open_bytes in_a now.a now.b)) (read_as_held tells (kept_from k in_a (edition_from 2 0)) now sink h held none refl in_a refl) in
       let bytes = same_bytes in_a now last (read told) other in
       inl (record {
         part = part;
         appended = appended;
         written = written told h reads;
-        quiet = still_quiet now last h bytes.0 bytes.1 (held_quiet tells (world (kept_from k in_a (edition_from 2 0)) now sink) h held none);
+        quiet = still_quiet now last h bytes.0 bytes.1 (subst (IsQuietFor now) (stored_whole (kept_from k in_a (edition_from 2 0)) h refl none) (held_quiet tells (world (kept_from k in_a (edition_from 2 0)) now sink) h held));
       });
   exact = λ told e cause not. absurd (not (reopened_only k in_a start blocks old.a.bytes old.b.bytes now.a.bytes now.b.bytes (r told) e cause));
   faults = faults_from source sink n now old (handed s t last m) a b ending met;

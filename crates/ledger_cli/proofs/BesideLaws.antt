@@ -39,7 +39,7 @@ use Rattle.ledger_cli.specs.declared.ending.LedgerEnding.{LedgerEnding}
 use Rattle.ledger_cli.specs.declared.ending.LedgerEnding.TheVariants.{Run}
 use Rattle.ledger_cli.proofs.BoardLaws.{told_first, told_lines, told_none, told_nothing, faults_behind}
 use Rattle.ledger_cli.proofs.FailureLaws.{fails_none}
-use Rattle.ledger_cli.proofs.HaltLaws.{Halts, halts_there}
+use Rattle.ledger_cli.proofs.HaltLaws.{IsClear, Halts, halts_there}
 use Rattle.ledger_cli.proofs.MergeLaws.{order_same}
 use Rattle.ledger_cli.proofs.NotaryLaws.{took_none}
 use Rattle.ledger_cli.proofs.OpeningLaws.{ran_again, again_unstarted}
@@ -51,14 +51,14 @@ abbrev nothing_read : Reading
 nothing_read = record { held = []; total = 0; ended = false; failed = None }
 
 -- no line of a script was taken, for want of memory
-pub ran_nothing : (scheme : Scheme) (tells : Bool) (IsSo : History → History → Type 0) (w : World) (source : SourceState) (n : NotaryState) → HasRoom w.kept → w.kept.dues ≡ [] → Runs scheme tells w IsSo (Run run.NoMemory) (handed source w.sink w.disks n) (handed source w.sink w.disks n)
+pub ran_nothing : (scheme : Scheme) (tells : Bool) (IsSo : History → History → Type 0) (w : World) (source : SourceState) (n : NotaryState) → HasRoom w.kept → IsClear w.kept → Runs scheme tells w IsSo (Run run.NoMemory) (handed source w.sink w.disks n) (handed source w.sink w.disks n)
 ran_nothing scheme tells IsSo w source n room none =
     let x : Halts scheme tells w n [] [] [] end.NoMemory w = halts_there scheme tells w n [] [] [] end.NoMemory w (lacking scheme tells w w [] [] (goes_same tells w)) in
     halt scheme tells IsSo w n n source source nothing_read [] (read_none source nothing_read refl) [] [] (λ h p. took_none scheme h n) room none [] end.NoMemory w x
     (part_open n [] [] [] [] ([] ++ x.behind) x.later cut_none tt (with_behind [] [] x.behind [] x.later x.split (order_same []))) (fails_none n)
 
 -- .. and nothing more was done
-pub beside_nothing : (scheme : Scheme) (tells : Bool) (w : World) (provers count : ℕ) (source : SourceState) (n : NotaryState) → HasRoom w.kept → w.kept.dues ≡ [] → RunsBeside scheme tells w provers count (Run run.NoMemory) (handed source w.sink w.disks n) (handed source w.sink w.disks n)
+pub beside_nothing : (scheme : Scheme) (tells : Bool) (w : World) (provers count : ℕ) (source : SourceState) (n : NotaryState) → HasRoom w.kept → IsClear w.kept → RunsBeside scheme tells w provers count (Run run.NoMemory) (handed source w.sink w.disks n) (handed source w.sink w.disks n)
 beside_nothing scheme tells w provers count source n room none = record {
   met = Run run.NoMemory;
   mid = handed source w.sink w.disks n;

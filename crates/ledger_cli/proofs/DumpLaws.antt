@@ -3,6 +3,7 @@ use Rattle.std.specs.Prelude.{IsTrue}
 use Rattle.std.proofs.Common.{◌≡◌, inl, inr, Bool, true, false, List, Option, None, Result, Ok, Err, refl, ap, sym, subst, ◌∙◌}
 use Rattle.batch_committer.specs.Opened.{kept_from, IsOpened, IsQuietFor}
 use Rattle.batch_committer.specs.World.{Pair, OneFailed, world}
+use Rattle.batch_committer.proofs.Grouped.{stored_whole}
 use Rattle.batch_committer.proofs.Opening.{opened_held, held_quiet}
 use Rattle.batch_committer.proofs.ReadLaws.{read_as_held}
 use Rattle.block_file.specs.File.{IsSettled}
@@ -104,7 +105,7 @@ dumped tells source sink t n m old now last k in_a start blocks opened limits r 
       let held = opened_held tells k in_a (edition_from 2 0) start blocks old.a.bytes old.b.bytes now sink h opened limits told (r told) p in
       let none = none_waits old.a.bytes.seen old.b.bytes.seen h p in
       let read : IsReadAs k.book k.places (open_of in_a now.a now.b).bytes.seen h =
-      subst (λ (s : State). IsReadAs k.book k.places s.seen h) (sym (open_bytes in_a now.a now.b)) (read_as_held tells (kept_from k in_a (edition_from 2 0)) now sink h held none in_a refl) in
+      subst (λ (s : State). IsReadAs k.book k.places s.seen h) (sym (open_bytes in_a now.a now.b)) (read_as_held tells (kept_from k in_a (edition_from 2 0)) now sink h held none refl in_a refl) in
       let bytes = same_bytes in_a now last (w.read.bytes told) other in
       inl (record {
         result = result;
@@ -113,7 +114,7 @@ dumped tells source sink t n m old now last k in_a start blocks opened limits r 
         appended = w.appended;
         written = w.written told h read;
         damage = damage told h read;
-        quiet = still_quiet now last h bytes.0 bytes.1 (held_quiet tells (world (kept_from k in_a (edition_from 2 0)) now sink) h held none);
+        quiet = still_quiet now last h bytes.0 bytes.1 (subst (IsQuietFor now) (stored_whole (kept_from k in_a (edition_from 2 0)) h refl none) (held_quiet tells (world (kept_from k in_a (edition_from 2 0)) now sink) h held));
       });
   unread = refl;
   asked = w.asked;

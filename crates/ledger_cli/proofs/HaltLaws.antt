@@ -4,15 +4,16 @@ use Rattle.std.proofs.lemmas.Option.{slice_get_within, get_or_from_slice_get}
 use Rattle.journal_record.specs.Entry.{Entry}
 use Rattle.journal_record.specs.Header.{HasWidths}
 use Rattle.time_peg.specs.Entries.{NotaryState, IsList}
-use Rattle.batch_committer.specs.World.{World, Holds, HasRoom, sealed_part, Goes, EndsOnTheWay, LeftAtTheEnd, Writes}
+use Rattle.batch_committer.specs.World.{CommitterState, World, Holds, HasRoom, stored_part, Goes, EndsOnTheWay, LeftAtTheEnd, Writes}
 use Rattle.batch_committer.specs.Opened.{IsQuietFor}
 use Rattle.batch_committer.specs.declared.failure.CommitErr.{CommitErr}
+use Rattle.batch_committer.proofs.Grouped.{stored_split, stored_whole}
 use Rattle.batch_committer.proofs.Opening.{held_quiet, held_lawful}
 use Rattle.batch_committer.proofs.WayLaws.{begins_not}
 use Rattle.ledger_io.specs.Runs.{SomeAnswer}
 use Rattle.ledger_model.specs.Dues.{dues, all_dues, due_lines, due_replies, AllIn}
 use Rattle.ledger_model.specs.Growing.{Grows}
-use Rattle.ledger_model.specs.History.{History, id, journals, journals_of, close, point}
+use Rattle.ledger_model.specs.History.{History, history, id, journals, journals_of, close, point}
 use Rattle.ledger_model.specs.Lawful.{IsLawful}
 use Rattle.ledger_model.specs.Merge.{said_by, IsMerge}
 use Rattle.ledger_model.specs.Pegs.{PeggedFrom, Pegged}
@@ -48,6 +49,10 @@ use Rattle.ledger_cli.proofs.NotaryLaws.{TookOn, took_window, took_end, taken_al
 use Rattle.ledger_cli.proofs.OrderLaws.{CanGoOn, begun_goes, begun_behind, parts_of, last_after, last_owed}
 use Rattle.ledger_cli.proofs.PegLaws.{pegged_some, some_journal}
 use Rattle.ledger_cli.proofs.StopLaws.{CleanBy, SaidOf, said_of, stop_stands}
+
+-- nothing is due, and no block is gathered for the disk
+abbrev pub IsClear : CommitterState → Type 0
+IsClear k = (k.dues ≡ []) × (k.ended ≡ 0)
 
 -- ---- a call stopped a run behind the steps that were taken
 
@@ -110,18 +115,23 @@ module _ (scheme : Scheme) (h : History) (done : List (List Step)) (current : Li
   lines_so = ap (due_lines taken_after) owes_so ∙ run_lines scheme h taken_after (taken done current) (grows_not taken_after)
 
 -- the headers of the history that is held have their widths
-wide_held : (tells : Bool) (w : World) (h : History) → Holds tells w h → h.waiting ≡ [] → HasWideTimes h
-wide_held tells w h p none = λ j e there time.
-    let js = journals (sealed_part h) in
-    let at : slice_get js j ≡ Some e = ap (λ es. slice_get (journals_of h.closed ++ es) j) (sym none) ∙ there in
-    subst (λ (x : Entry). HasWidths x.header) (get_or_from_slice_get js j e e at) (standing_wide _ _ _ (sealed_part h) p.disks.erased j e (slice_get_within js j e at))
+wide_held : (tells : Bool) (w : World) (h : History) → Holds tells w h → h.waiting ≡ [] → w.kept.ended ≡ 0 → HasWideTimes h
+wide_held tells w h p none stored = λ j e there time.
+    let part = history p.keeps.group.stored [] in
+    let js = journals part in
+    let at : slice_get js j ≡ Some e = ap (λ (g : History). slice_get (journals g) j) (sym (stored_split w.kept h p.keeps.group) ∙ stored_whole w.kept h stored none) ∙ there in
+    subst (λ (x : Entry). HasWidths x.header) (get_or_from_slice_get js j e e at) (standing_wide _ _ _ part p.disks.erased j e (slice_get_within js j e at))
 
-module _ (scheme : Scheme) (tells : Bool) (w : World) (h : History) (p : Holds tells w h) (room : HasRoom w.kept) (none : h.waiting ≡ []) (no_dues : w.kept.dues ≡ []) (first : NotaryState) (list : IsList first.entries) where
+module _ (scheme : Scheme) (tells : Bool) (w : World) (h : History) (p : Holds tells w h) (room : HasRoom w.kept) (none : h.waiting ≡ []) (no_dues : w.kept.dues ≡ []) (no_group : w.kept.ended ≡ 0) (first : NotaryState) (list : IsList first.entries) where
   lawful : IsLawful h
   lawful = held_lawful tells w h p room
 
   wide : HasWideTimes h
-  wide = wide_held tells w h p none
+  wide = wide_held tells w h p none no_group
+
+  -- all of it is stored
+  stored : stored_part w.kept h ≡ h
+  stored = stored_whole w.kept h no_group none
 
   module _ (script : List (List ℕ)) (few : length script < 2 ^ 64) (done : List (List Step)) (current : List Step) (n : NotaryState) where
     -- a call stopped the run within the script: what was written begins the text of a merge of each script that goes on from there, and
@@ -137,7 +147,9 @@ module _ (scheme : Scheme) (tells : Bool) (w : World) (h : History) (p : Holds t
       took_all = took_window scheme h first done current n took
 
       stops_so : LeftAtTheEnd h (x.next h) (owed scheme done current h) end x.ended.part t.disks
-      stops_so = subst (λ l. LeftAtTheEnd h (x.next h) (l ++ owed scheme done current h) end x.ended.part t.disks) no_dues (x.ended.stops h p)
+      stops_so =
+          subst (λ (k : History). LeftAtTheEnd k (x.next h) (owed scheme done current h) end x.ended.part t.disks) stored
+          (subst (λ l. LeftAtTheEnd (stored_part w.kept h) (x.next h) (l ++ owed scheme done current h) end x.ended.part t.disks) no_dues (x.ended.stops h p))
 
       closes_now : Grows (x.next h) now_last
       closes_now = subst (Grows (x.next h)) (closes_so scheme h done current) (x.closes h p)
@@ -236,7 +248,9 @@ module _ (scheme : Scheme) (tells : Bool) (w : World) (h : History) (p : Holds t
       stopped_last end t e =
           let settled = after_none scheme h steps none in
           let due : w.kept.dues ++ (owed scheme done current h ++ []) ≡ owed scheme done current h = ap (λ l. l ++ (owed scheme done current h ++ [])) no_dues ∙ append-nil (owed scheme done current h) in
-          let s = subst (λ l. LeftAtTheEnd h (close (reached scheme done current h)) l end e.part t.disks) due (e.stops h p) in
+          let s =
+          subst (λ (k : History). LeftAtTheEnd k (close (reached scheme done current h)) (owed scheme done current h) end e.part t.disks) stored
+          (subst (λ l. LeftAtTheEnd (stored_part w.kept h) (close (reached scheme done current h)) l end e.part t.disks) due (e.stops h p)) in
           let g : Grows (close (reached scheme done current h)) last = subst (Grows (close (reached scheme done current h))) last_is (grows_not (close (reached scheme done current h))) in
           let all : due_lines last (s.done ++ s.rest) ≡ text scheme h steps = ap (due_lines last) (sym s.split) ∙ text_last in
           let said : SaidOf end e.part (text scheme h steps) = said_of end last e.part (text scheme h steps) s.done s.rest (s.said last g settled) all in
@@ -258,12 +272,17 @@ module _ (scheme : Scheme) (tells : Bool) (w : World) (h : History) (p : Holds t
           )
 
       -- the script was run to its end
-      module _ (t : World) (x : Goes tells w (λ k. close (reached scheme done current k)) (λ k. owed scheme done current k ++ []) t) (no_more : t.kept.dues ≡ []) where
-        quiet : IsQuietFor t.disks last
-        quiet = held_quiet tells t last (subst (Holds tells t) last_is (x.holds h p)) (after_none scheme h steps none)
+      module _ (t : World) (x : Goes tells w (λ k. close (reached scheme done current k)) (λ k. owed scheme done current k ++ []) t) (no_more : t.kept.dues ≡ []) (all_stored : t.kept.ended ≡ 0) where
+        last_whole : stored_part t.kept last ≡ last
+        last_whole = stored_whole t.kept last all_stored (after_none scheme h steps none)
 
-        abbrev written : Writes last w.kept.dues (owed scheme done current h ++ []) t.kept.dues x.sofar
-        written = subst (λ k. Writes k w.kept.dues (owed scheme done current h ++ []) t.kept.dues x.sofar) last_is (x.writes h p)
+        quiet : IsQuietFor t.disks last
+        quiet = subst (IsQuietFor t.disks) last_whole (held_quiet tells t last (subst (Holds tells t) last_is (x.holds h p)))
+
+        abbrev written : Writes last last w.kept.dues (owed scheme done current h ++ []) t.kept.dues x.sofar
+        written =
+            subst (λ (k : History). Writes last k w.kept.dues (owed scheme done current h ++ []) t.kept.dues x.sofar) last_whole
+            (subst (λ (k : History). Writes k (stored_part t.kept k) w.kept.dues (owed scheme done current h ++ []) t.kept.dues x.sofar) last_is (x.writes h p))
 
         all_done : written.done ≡ owed scheme done current h
         all_done =

@@ -9,6 +9,7 @@ use Rattle.batch_committer.specs.declared.failure.CommitErr.{CommitErr}
 use Rattle.batch_committer.specs.declared.failure.CommitErr.TheVariants as end
 use Rattle.batch_committer.proofs.Ending.{no_memory}
 use Rattle.batch_committer.proofs.Opening.{held_lawful}
+use Rattle.batch_committer.proofs.Grouped.{blocks_held}
 use Rattle.batch_committer.proofs.WayLaws.{goes_same, goes_then, goes_as, ended_then, ended_as}
 use Rattle.lane_work.specs.Offering as lanes
 use Rattle.lane_work.specs.Offering.{Stops, OffersLine, RunsAll, RunsSome}
@@ -47,7 +48,7 @@ use Rattle.ledger_book.specs.Books.{Kept, Serves}
 use Rattle.ledger_model.specs.Lawful.{IsBlock}
 use Rattle.ledger_cli.specs.Boards.{Posted, IsFollowed, IsNextTo}
 use Rattle.ledger_cli.proofs.NextLaws.{next_job, next_close}
-use Rattle.ledger_cli.specs.Pieces.{At, world_at, GoesAlong, FollowsAlong, IsOpen, TakesPiece, Told, Answered, PieceTaken, PieceBroken, WindowTaken, WindowBroken}
+use Rattle.ledger_cli.specs.Pieces.{At, world_at, GoesAlong, FollowsAlong, IsOpen, Settled, Unsettled, TakesPiece, Told, Answered, PieceTaken, PieceBroken, WindowTaken, WindowBroken}
 
 -- ---- a chain of values is one of what they tell
 
@@ -65,7 +66,7 @@ module _ {S X W : Type 0} (tell : S → W) (step : W → X → Flow → W → Ty
 pub goes_along : (tells : Bool) (w : World) (old new : Option Posted) (book : Kept) → book ≡ w.kept.book
     → ((first : ℕ) (h g : History) → Serves book g → All IsBlock g.closed → IsNextTo h g → IsFollowed first h old → IsFollowed first g new)
     → (first : ℕ) (h g : History) → Holds tells w g → IsNextTo h g → IsFollowed first h old → IsFollowed first g new
-goes_along tells w old new book is look first h g p next f = look first h g (subst (λ (k : Kept). Serves k g) (sym is) p.keeps.serves) p.disks.erased.lawful.blocks_are next f
+goes_along tells w old new book is look first h g p next f = look first h g (subst (λ (k : Kept). Serves k g) (sym is) p.keeps.serves) (blocks_held tells w g p) next f
 
 -- ---- jobs, on the ledger with an id
 
@@ -461,6 +462,33 @@ module _ (scheme : Scheme) (tells : Bool) (first : List ℕ) (lines : List LaneL
 
   fails_same : FailsIn (length lines) s.notary t.notary
   fails_same = subst (FailsIn (length lines) s.notary) (sym same) x.fails
+
+  pub piece_settled : Settled tells m t → PieceTaken scheme tells first lines s t
+  piece_settled f = record {
+    steps = x.steps;
+    is_order = x.is_order;
+    goes =
+        goes_as tells (world_at s) (world_at t) (λ h. after_steps scheme h x.steps) (λ h. after_steps scheme h x.steps) (λ h. dues scheme h x.steps ++ []) (λ h. dues scheme h x.steps)
+        (λ h p. refl) (λ h p. append-nil (dues scheme h x.steps))
+        (goes_then tells (world_at s) (world_at m) (world_at t) (λ h. after_steps scheme h x.steps) (λ h. h) (λ h. dues scheme h x.steps) (λ h. []) x.goes f.goes);
+    follows = λ first h p y. subst (IsFollowed first (after_steps scheme h x.steps)) (sym f.board) (x.follows first h p y);
+    took = took_same;
+    fails = fails_same;
+  }
+
+  pub piece_unsettled : (why : CommitErr) → Unsettled tells why m t → PieceBroken scheme tells first lines why s t
+  piece_unsettled why f = record {
+    steps = x.steps;
+    rest = [];
+    is_order = subst (λ (l : List Said). IsOrderOf first lines l) (sym (append-nil (map said_by x.steps))) x.is_order;
+    ended =
+        inl
+        (ended_as tells (world_at s) (world_at t) (λ h. after_steps scheme h x.steps) (λ h. after_steps scheme h x.steps) (λ h. dues scheme h x.steps ++ []) (λ h. dues scheme h x.steps) why
+        (λ h p. refl) (λ h p. append-nil (dues scheme h x.steps))
+        (ended_then tells (world_at s) (world_at m) (world_at t) (λ h. after_steps scheme h x.steps) (λ h. h) (λ h. dues scheme h x.steps) (λ h. []) why x.goes f.ended));
+    took = took_same;
+    fails = fails_same;
+  }
 
   pub window_taken : Goes tells (world_at m) close (λ h. []) (world_at t) → GoesAlong tells m t → WindowTaken scheme tells first lines s t
   window_taken f along = record {

@@ -46,7 +46,7 @@ use Rattle.ledger_cli.specs.declared.ending.LedgerEnding.TheVariants.{Run}
 use Rattle.ledger_cli.specs.Leaving.{AreClean}
 use Rattle.ledger_cli.specs.Failures.{FailsIn, FailsByLines}
 use Rattle.ledger_cli.proofs.FailureLaws.{fails_none, fails_then, fails_wider, fails_read, given_few, given_more}
-use Rattle.ledger_cli.proofs.HaltLaws.{Halts, halts_there, halts_at, stopped, stopped_last, answered}
+use Rattle.ledger_cli.proofs.HaltLaws.{IsClear, Halts, halts_there, halts_at, stopped, stopped_last, answered}
 use Rattle.ledger_cli.proofs.LineLaws.{reached, owed, reach_on, owe_on, window_on, dues_on}
 use Rattle.ledger_cli.proofs.MergeLaws.{IsOrder, order_append, order_merge, order_same, merges_append, count_more}
 use Rattle.ledger_cli.proofs.NotaryLaws.{TookOn, took_none, took_on, window_took}
@@ -293,12 +293,12 @@ stop_as scheme h part disks first_n n why lines IsSo so a =
 
 pub halt : (scheme : Scheme) (tells : Bool) (IsSo : History → History → Type 0) (first_w : World) (first_n n : NotaryState) (before now : SourceState) (reading : Reading) (script : List (List ℕ)) (input : HasGiven before now reading script) (done : List (List Step)) (current : List Step)
     → ((h : History) → Holds tells first_w h → TookOn scheme h first_n done current n)
-    → HasRoom first_w.kept → first_w.kept.dues ≡ [] → (rest : List Said) (why : CommitErr) (t : World) (x : Halts scheme tells first_w n done current rest why t) → CanGoOn n script done (current ++ x.behind) → FailsIn (length script) first_n n
+    → HasRoom first_w.kept → IsClear first_w.kept → (rest : List Said) (why : CommitErr) (t : World) (x : Halts scheme tells first_w n done current rest why t) → CanGoOn n script done (current ++ x.behind) → FailsIn (length script) first_n n
     → Runs scheme tells first_w IsSo (ending_of_end why) (handed before first_w.sink first_w.disks first_n) (handed now t.sink t.disks n)
-halt scheme tells IsSo first_w first_n n before now reading script input done current took room no_dues rest why t x can fails =
+halt scheme tells IsSo first_w first_n n before now reading script input done current took room clear rest why t x can fails =
     let all = x.ended in record {
       serves = λ h p none list.
-          let stop = stopped scheme tells first_w h p room none no_dues first_n list script (few_lines before now reading script input) done current n rest why t x can (took h p) in
+          let stop = stopped scheme tells first_w h p room none clear.0 clear.1 first_n list script (few_lines before now reading script input) done current n rest why t x can (took h p) in
           let here = stop [] in
           serve_stop scheme h (IsSo h) why first_w t before now first_n n all.part input.read all.cause input.consumed all.appended here.0 here.2
           (λ IsText so. some_of_given (StopsOn scheme h all.part t.disks first_n n (CleanBy why h all.part) IsText) before now reading script input IsText (λ tail. stop_as scheme h all.part t.disks first_n n why (script ++ tail) IsText so (stop tail)));
@@ -323,7 +323,7 @@ lacking scheme tells first_w w done current g =
     (ended_then tells first_w w w (reached scheme done current) (λ h. h) (owed scheme done current) (λ h. []) end.NoMemory g (no_memory tells w w.kept (λ h. h) (λ h. []) (λ h p. grows_not h)))
 
 module _ (scheme : Scheme) (tells : Bool) (first_w w : World) (first_n n : NotaryState) (first_b b : Option Posted) (before now : SourceState) (reading : Reading) (first next : List ℕ) (piece : List LaneLine) (lines window_bytes : ℕ)
-    (room : HasRoom first_w.kept) (no_dues : first_w.kept.dues ≡ []) (s : SoFar scheme tells first_w w first_n n first_b b before now reading first next piece lines window_bytes) where
+    (room : HasRoom first_w.kept) (clear : IsClear first_w.kept) (s : SoFar scheme tells first_w w first_n n first_b b before now reading first next piece lines window_bytes) where
   -- nothing more is done for want of memory
   lacks_here : Halts scheme tells first_w n s.done s.current s.late end.NoMemory w
   lacks_here = halts_there scheme tells first_w n s.done s.current s.late end.NoMemory w (lacking scheme tells first_w w s.done s.current s.goes)
@@ -404,7 +404,7 @@ module _ (scheme : Scheme) (tells : Bool) (first_w w : World) (first_n n : Notar
       let order = with_rest s.front s.late s.current x.steps x.rest s.order taken in
       halt scheme tells IsSo first_w first_n t.notary before now reading s.script s.input s.done (s.current ++ x.steps)
       (take_on scheme tells first_w (world_at held) first_n held.notary t.notary s.done s.current x.steps (goes_here held same same_n) (took_here held same same_n) x.took)
-      room no_dues x.rest why (world_at t) broken
+      room clear x.rest why (world_at t) broken
       (part_open t.notary s.script s.windows_are s.front s.done ((s.current ++ x.steps) ++ broken.behind) broken.later s.cut s.merge (with_behind s.front (s.current ++ x.steps) broken.behind x.rest broken.later broken.split order)) (fails_all held same same_n t x.fails)
 
   -- the numbers of lanes fit
@@ -443,14 +443,14 @@ module _ (scheme : Scheme) (tells : Bool) (first_w w : World) (first_n n : Notar
       last_order steps o = with_order s.front s.late s.current steps s.order (late_taken first next piece s.script s.late (map said_by steps) s.are_late o)
 
       -- .. and the last lines were taken, and the last block ended
-      pub ran_whole : (t : At) → WindowTaken scheme tells first piece held t → t.held.kept.dues ≡ [] → is_lacking t.board ≡ false → Runs scheme tells first_w (HasFollowed first_b t.board) (Run (ending_after end)) (handed before first_w.sink first_w.disks first_n) (handed after_read t.sink t.disks t.notary)
+      pub ran_whole : (t : At) → WindowTaken scheme tells first piece held t → IsClear t.held.kept → is_lacking t.board ≡ false → Runs scheme tells first_w (HasFollowed first_b t.board) (Run (ending_after end)) (handed before first_w.sink first_w.disks first_n) (handed after_read t.sink t.disks t.notary)
       ran_whole t x no_more none_lacks =
           let now_taken = s.current ++ x.steps in
           let all = whole_end t x in record {
             serves = λ h p none list.
                 serve_end scheme h (HasFollowed first_b t.board h) end first_w (world_at t) before after_read first_n t.notary all.sofar read s.script all.no_fault.sink consumed all.appended e
-                (answered scheme tells first_w h p room none no_dues first_n list s.script few_here s.done now_taken t.notary (last_merge s.script s.windows_are s.front s.done now_taken s.cut s.merge (last_order x.steps x.is_order))
-                (take_on scheme tells first_w (world_at held) first_n held.notary t.notary s.done s.current x.steps here there x.took h p) (world_at t) all no_more
+                (answered scheme tells first_w h p room none clear.0 clear.1 first_n list s.script few_here s.done now_taken t.notary (last_merge s.script s.windows_are s.front s.done now_taken s.cut s.merge (last_order x.steps x.is_order))
+                (take_on scheme tells first_w (world_at held) first_n held.notary t.notary s.done s.current x.steps here there x.took h p) (world_at t) all no_more.0 no_more.1
                 (HasFollowed first_b t.board h)
                 (record { follows = λ number f. follow_end held t same same_b x.steps x.follows number h p f; none_waits = close_none (reached scheme s.done now_taken h); none_lacks = none_lacks }));
             ends = reads_end end before after_read read s.script consumed e;
@@ -475,7 +475,7 @@ module _ (scheme : Scheme) (tells : Bool) (first_w w : World) (first_n n : Notar
           let can = part_open t.notary s.script s.windows_are s.front s.done ((s.current ++ x.steps) ++ broken.behind) broken.later s.cut s.merge (with_behind s.front (s.current ++ x.steps) broken.behind x.rest broken.later broken.split order) in record {
             serves = λ h p none list.
                 let stop = subst (λ l. SomeAnswer (StopsOn scheme h all.part t.disks first_n t.notary (CleanBy why h all.part) (SaidOf why all.part)) l (SaidOf why all.part)) (append-nil s.script)
-                (stopped scheme tells first_w h p room none no_dues first_n list s.script few_here s.done (s.current ++ x.steps) t.notary x.rest why (world_at t) broken can
+                (stopped scheme tells first_w h p room none clear.0 clear.1 first_n list s.script few_here s.done (s.current ++ x.steps) t.notary x.rest why (world_at t) broken can
                 (take_on scheme tells first_w (world_at held) first_n held.notary t.notary s.done s.current x.steps here there x.took h p) []) in
                 serve_stop scheme h (IsSo h) why first_w (world_at t) before after_read first_n t.notary all.part read all.cause consumed all.appended stop.0 stop.2
                 (λ IsText so. inr (end, s.script, e, stop_as scheme h all.part t.disks first_n t.notary why s.script IsText so stop));
@@ -491,7 +491,7 @@ module _ (scheme : Scheme) (tells : Bool) (first_w w : World) (first_n n : Notar
           (λ h p. ap close (reach_on scheme h s.done s.current x.steps)) (λ h p. owe_on scheme h s.done s.current x.steps ∙ sym (append-nil (owed scheme s.done (s.current ++ x.steps) h)))
           (ended_then tells first_w (world_at held) (world_at t) (reached scheme s.done s.current) (λ h. close (after_steps scheme h x.steps)) (owed scheme s.done s.current) (λ h. dues scheme h x.steps) why here x.ended) in record {
             serves = λ h p none list.
-                let stop = stopped_last scheme tells first_w h p room none no_dues first_n list s.script few_here s.done now_taken t.notary (last_merge s.script s.windows_are s.front s.done now_taken s.cut s.merge (last_order x.steps x.is_order))
+                let stop = stopped_last scheme tells first_w h p room none clear.0 clear.1 first_n list s.script few_here s.done now_taken t.notary (last_merge s.script s.windows_are s.front s.done now_taken s.cut s.merge (last_order x.steps x.is_order))
                 (take_on scheme tells first_w (world_at held) first_n held.notary t.notary s.done s.current x.steps here there x.took h p) why (world_at t) all in
                 serve_stop scheme h (IsSo h) why first_w (world_at t) before after_read first_n t.notary all.part read all.cause consumed all.appended stop.0 stop.2
                 (λ IsText so. inr (end, s.script, e, stop_as scheme h all.part t.disks first_n t.notary why s.script IsText so stop));
@@ -518,7 +518,7 @@ module _ (scheme : Scheme) (tells : Bool) (first_w w : World) (first_n n : Notar
           | inr f ↦
               let all = lacks_here.ended in record {
                 serves = λ h p none list.
-                    let stop = stopped scheme tells first_w h p room none no_dues first_n list s.script few_here s.done s.current n s.late end.NoMemory w lacks_here can_here (s.took h p) in
+                    let stop = stopped scheme tells first_w h p room none clear.0 clear.1 first_n list s.script few_here s.done s.current n s.late end.NoMemory w lacks_here can_here (s.took h p) in
                     let here = stop [] in
                     serve_stop scheme h (IsSo h) end.NoMemory first_w w before after_read first_n n all.part read all.cause consumed all.appended here.0 here.2
                     (λ IsText so. some_at_failure before now after_read reading new bytes s.script s.input r (StopsOn scheme h all.part w.disks first_n n AreClean IsText) IsText k f (λ tail. stop_as scheme h all.part w.disks first_n n end.NoMemory (s.script ++ tail) IsText so (stop tail)));
@@ -545,7 +545,7 @@ module _ (scheme : Scheme) (tells : Bool) (first_w w : World) (first_n n : Notar
 
       -- .. for which there is no memory
       pub ran_lacking : (IsSo : History → History → Type 0) → Runs scheme tells first_w IsSo (Run run.NoMemory) (handed before first_w.sink first_w.disks first_n) (handed after_read w.sink w.disks n)
-      ran_lacking IsSo = halt scheme tells IsSo first_w first_n n before after_read new script_now more s.done s.current s.took room no_dues s.late end.NoMemory w lacks_here (can_later n s.script line s.done (s.current ++ lacks_here.behind) can_here) (fails_wider s.tried (length script_now) first_n n (let l = s.tried_are in let e = length-append s.script (line ∷ []) in omega (arith, l, e)) s.fails)
+      ran_lacking IsSo = halt scheme tells IsSo first_w first_n n before after_read new script_now more s.done s.current s.took room clear s.late end.NoMemory w lacks_here (can_later n s.script line s.done (s.current ++ lacks_here.behind) can_here) (fails_wider s.tried (length script_now) first_n n (let l = s.tried_are in let e = length-append s.script (line ∷ []) in omega (arith, l, e)) s.fails)
 
       order_now : IsOrder (s.front ++ x ∷ []) (map said_by s.current ++ (s.late ++ x ∷ []))
       order_now = subst (IsOrder (s.front ++ x ∷ [])) (append_assoc (map said_by s.current) s.late (x ∷ [])) (order_append s.front (x ∷ []) (map said_by s.current ++ s.late) (x ∷ []) s.order (order_same (x ∷ [])))
@@ -644,12 +644,12 @@ module _ (scheme : Scheme) (tells : Bool) (first_w w : World) (first_n n : Notar
               let order = with_rest (s.front ++ x ∷ []) (s.late ++ x ∷ []) s.current y.steps y.rest order_now (taken_now (map said_by y.steps ++ y.rest) y.is_order) in
               halt scheme tells IsSo first_w first_n t.notary before after_read new script_now more s.done (s.current ++ y.steps)
               (take_on scheme tells first_w (world_at held) first_n held.notary t.notary s.done s.current y.steps (goes_here held same same_n) (took_here held same same_n) y.took)
-              room no_dues y.rest why (world_at t) broken
+              room clear y.rest why (world_at t) broken
               (part_whole t.notary script_now s.windows_are (s.front ++ x ∷ []) s.done ((s.current ++ y.steps) ++ broken.behind) broken.later cut_now s.merge (with_behind (s.front ++ x ∷ []) (s.current ++ y.steps) broken.behind y.rest broken.later broken.split order)) (fails_now t y.fails)
           ran_unended IsSo t why (inr y) =
               let whole = s.done ++ (s.current ++ y.steps) ∷ [] in
               let stays = halts_there scheme tells first_w t.notary whole [] [] why (world_at t) (unend_on scheme tells first_w (world_at held) (world_at t) s.done s.current y.steps (goes_here held same same_n) why y.ended) in
               halt scheme tells IsSo first_w first_n t.notary before after_read new script_now more whole []
               (λ h q. window_took scheme h first_n s.done (s.current ++ y.steps) t.notary (take_on scheme tells first_w (world_at held) first_n held.notary t.notary s.done s.current y.steps (goes_here held same same_n) (took_here held same same_n) y.took h q))
-              room no_dues [] why (world_at t) stays
+              room clear [] why (world_at t) stays
               (part_open t.notary script_now (s.windows_are ++ (s.front ++ x ∷ []) ∷ []) [] whole ([] ++ stays.behind) stays.later cut_now (merge_now y.steps y.is_order) (with_behind [] [] stays.behind [] stays.later stays.split (order_same []))) (fails_now t y.fails)

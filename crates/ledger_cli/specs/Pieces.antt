@@ -1,5 +1,5 @@
 -- What came of a piece of a window, whose lines were offered to a committer.
-use Rattle.std.specs.Prelude.{◌≡◌, ◌⊎◌, ℕ, Bool, false, List, ◌∷◌, ◌++◌, length, map, Option, None, Some}
+use Rattle.std.specs.Prelude.{◌≡◌, ◌⊎◌, ℕ, Bool, false, List, [], ◌∷◌, ◌++◌, length, map, Option, None, Some}
 use Rattle.batch_committer.specs.World.{Held, Pair, World, world, Fits, HasRoom, Holds, Goes, EndsOnTheWay}
 use Rattle.batch_committer.specs.declared.failure.CommitErr.{CommitErr}
 use Rattle.lane_work.specs.Orders.{IsOrderOf}
@@ -54,6 +54,20 @@ GoesAlong tells s t =
 abbrev pub FollowsAlong : Bool → At → (History → History) → At → Type 0
 FollowsAlong tells s next t =
     (first : ℕ) (h : History) → Holds tells (world_at s) h → IsFollowed first h s.board → IsFollowed first (next h) t.board
+
+-- ---- between two pieces
+
+-- No line was taken: what had ended was put on the disk, its replies were written, and the committer may be offered more.
+pub record Settled (tells : Bool) (s t : At) : Type 0 where
+  pub goes : Goes tells (world_at s) (λ h. h) (λ h. []) (world_at t)
+  pub still : IsOpen tells t
+  pub notary : t.notary ≡ s.notary
+  pub board : t.board ≡ s.board
+
+-- the run ended at that
+pub record Unsettled (tells : Bool) (end : CommitErr) (s t : At) : Type 0 where
+  pub ended : EndsOnTheWay tells (world_at s) (λ h. h) (λ h. []) end (world_at t)
+  pub notary : t.notary ≡ s.notary
 
 -- ---- where a run ended
 

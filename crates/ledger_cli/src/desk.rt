@@ -1,9 +1,9 @@
 //! A committer with its disks, its sink, its notary and what follows it, which takes the lines of a piece.
 
-ghost use Rattle.std.specs.Prelude.{◌≡◌, ◌≤◌, ◌<◌, ◌+◌, ◌^◌, ◌∷◌, ℕ, List, [], None, length, slice_index, vec_len, OnOk, IfNone};
+ghost use Rattle.std.specs.Prelude.{◌≡◌, ◌≤◌, ◌<◌, ◌+◌, ◌^◌, ◌∷◌, ℕ, List, [], None, length, slice_index, vec_len, OnOk, IfErr, IfNone};
 ghost use Rattle.lane_work.specs.Making.{lines_of};
 ghost use Rattle.ledger_cli.specs.Desks.{at_desk, SameDesk, TakesLines, TakesWindow};
-ghost use Rattle.ledger_cli.specs.Pieces.{IsOpen, TakesPiece};
+ghost use Rattle.ledger_cli.specs.Pieces.{IsOpen, Settled, Unsettled, TakesPiece};
 
 use crate::follower::Follower;
 use crate::piece::Piece;
@@ -184,11 +184,30 @@ impl<'c, 'a, 'b, 's, 'n, 'w, D: Disk, K: Sink, N: Notary, W: Follower> Desk<
         }
     }
 
-    /// Takes the lines of a piece. The next piece then begins. Where what follows lacks memory, the run ends behind them.
+    // Has the blocks that ended put on the disk and their replies written, where that is asked for.
+    fn settle(&mut self, is_asked: bool) -> Result<(), CommitErr>
+        requires { IsOpen D.tells (at_desk D.state K.state N.state W.board self.old) }
+        ensures fresh { self.new.end ≡ self.old.end }
+        ensures same { SameDesk W.board self.old self.new }
+        ensures ok { OnOk result (Settled D.tells
+            (at_desk D.state K.state N.state W.board self.old) (at_desk D.state K.state N.state W.board self.new)) }
+        ensures err { IfErr result (λ end. Unsettled D.tells end
+            (at_desk D.state K.state N.state W.board self.old) (at_desk D.state K.state N.state W.board self.new)) }
+    {
+        if is_asked {
+            self.committer.settle(self.a, self.b, self.sink)
+        } else {
+            Ok(())
+        }
+    }
+
+    /// Takes the lines of a piece, and where none is there behind them has the blocks that ended put on the disk and their replies
+    /// written. The next piece then begins. Where what follows lacks memory, the run ends behind them.
     pub(crate) fn take_piece<R: Threads + Wait + Sync, V: Verifier, G: Gate>(
         &mut self,
         tools: &Tools<R, V, G>,
         piece: &mut Piece,
+        is_last: bool,
     ) -> Result<(), CommitErr>
         requires fresh { self.old.end ≡ None }
         requires open { IsOpen D.tells (at_desk D.state K.state N.state W.board self.old) }
@@ -204,6 +223,9 @@ impl<'c, 'a, 'b, 's, 'n, 'w, D: Disk, K: Sink, N: Notary, W: Follower> Desk<
         ensures next { piece.new.next ≡ piece.old.next }
     {
         if let Err(end) = self.take_lines(tools, piece) {
+            return Err(end);
+        }
+        if let Err(end) = self.settle(is_last) {
             return Err(end);
         }
         if self.follower.lacks() {
@@ -232,7 +254,7 @@ impl<'c, 'a, 'b, 's, 'n, 'w, D: Disk, K: Sink, N: Notary, W: Follower> Desk<
         ensures first { piece.new.first ≡ piece.old.next }
         ensures next { piece.new.next ≡ piece.old.next }
     {
-        if let Err(end) = self.take_piece(tools, piece) {
+        if let Err(end) = self.take_piece(tools, piece, false) {
             return Err(end);
         }
         if let Err(end) = self.committer.flush(self.a, self.b, self.sink) {

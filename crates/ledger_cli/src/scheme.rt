@@ -1,8 +1,12 @@
 //! Which scheme of proofs a ledger is run with: what the words say, and what a file in its folder says.
 
 use ledger_bytes::{Failed, NoMemory};
-use std::fs::{self, File};
+use std::fs::{self, File, OpenOptions};
 use std::io;
+use std::os::unix::fs::OpenOptionsExt;
+
+// The rights of the file, which is its owner's alone as the ledger's are.
+const OWNER_ALONE: u32 = 0o600;
 
 /// The scheme of its members' proofs.
 #[derive(Clone, Copy, Debug, PartialEq, Eq)]
@@ -60,7 +64,12 @@ impl Mark {
     }
 
     fn created(&self, rt: &HostRuntime) -> io::Result<()> {
-        File::create(rt, self.path.as_str())?.sync_all()?;
+        let file = OpenOptions::new()
+            .write(true)
+            .create(true)
+            .mode(OWNER_ALONE)
+            .open(rt, self.path.as_str())?;
+        file.sync_all()?;
         File::open(rt, self.folder.as_str())?.sync_all()
     }
 

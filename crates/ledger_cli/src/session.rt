@@ -186,9 +186,10 @@ fn answer_lines<
             return Err(LedgerEnding::Run(Ending::NoMemory));
         };
         if full {
+            lines.widen();
             desk.end_window(tools, &mut piece)?;
         } else if is_due(&piece, &mut lines) {
-            desk.take_piece(tools, &mut piece)?;
+            desk.take_piece(tools, &mut piece, !lines.holds_line())?;
         }
     }
 }

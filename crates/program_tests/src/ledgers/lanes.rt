@@ -182,13 +182,14 @@ fn answers_each_lane_in_order(rt: HostRuntime) -> Result<(), Fail> {
     Ok(())
 }
 
-/// The line that is given again and again.
-const ASKS: &[u8] = b"0 head\n";
-
-/// A source that gives a line at a time, and the next one once the last is answered. It ends at the first line that isn't.
+/// A source that gives some lines at a time, again and again, and the next ones once all so far are answered. It ends where one
+/// isn't.
 #[derive(Drop)]
 struct Patient {
     answered: Arc<AtomicU64>,
+    text: Vec<u8>,
+    /// How many lines the text has, and how many were given and may be.
+    lines: u64,
     given: u64,
     most: u64,
 }
@@ -200,12 +201,13 @@ impl Source for Patient {
         if self.given == self.most || self.answered.load(Ordering::SeqCst) != self.given {
             return Ok(0);
         }
-        let Some(front) = into.get_mut(..ASKS.len()) else {
+        let len = self.text.len();
+        let Some(front) = into.get_mut(..len) else {
             return Ok(0);
         };
-        front.copy_from_slice(ASKS);
-        self.given = self.given.saturating_add(1);
-        Ok(ASKS.len())
+        front.copy_from_slice(self.text.as_slice());
+        self.given = self.given.saturating_add(self.lines);
+        Ok(len)
     }
 
     fn faults(&self) -> u64 {
@@ -238,21 +240,41 @@ impl Sink for Telling {
     }
 }
 
-#[test]
-fn answers_a_line_before_the_next_is_given(rt: HostRuntime) -> Result<(), Fail> {
-    let alloc = rt.alloc();
+/// How many lines are given and answered, where so many times this line comes at once.
+fn answered_at_once<R: Threads + Wait + Sync>(
+    rt: &R,
+    alloc: Global,
+    line: &str,
+    lines: u64,
+    most: u64,
+) -> Result<(u64, u64), Fail> {
     let answered = Arc::new(alloc, AtomicU64::new(0))?;
+    let mut text = Vec::new(alloc);
+    for _ in 0..lines {
+        text.extend_from_slice(line.as_bytes())?;
+    }
     let mut source = Patient {
         answered: answered.clone()?,
+        text,
+        lines,
         given: 0,
-        most: 20,
+        most,
     };
     let mut sink = Telling {
         inner: MemSink::new(alloc, AMPLE, Vec::new(alloc))?,
         answered,
     };
-    assert_eq!(rt; run_demo(&rt, alloc, &mut source, &mut sink, &OpenGate)?, 0);
-    assert_eq!(rt; source.given, 20);
-    assert_eq!(rt; sink.answered.load(Ordering::SeqCst), 20);
+    let _status = run_demo(rt, alloc, &mut source, &mut sink, &OpenGate)?;
+    Ok((source.given, sink.answered.load(Ordering::SeqCst)))
+}
+
+// A line that asks, one block of records, and two that are committed together.
+#[test]
+fn answers_what_was_given_before_more_is_read(rt: HostRuntime) -> Result<(), Fail> {
+    let alloc = rt.alloc();
+    assert_eq!(rt; answered_at_once(&rt, alloc, "0 head\n", 1, 20)?, (20, 20));
+    for (lines, most) in [(64, 640), (128, 1_280)] {
+        assert_eq!(rt; answered_at_once(&rt, alloc, EMPTY, lines, most)?, (most, most));
+    }
     Ok(())
 }

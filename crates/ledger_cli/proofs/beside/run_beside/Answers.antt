@@ -25,7 +25,7 @@ use Rattle.ledger_cli.proofs.SizeLaws.{IsSeenIn, all_seen, list_is}
 use Rattle.ledger_cli.proofs.beside.run_beside.Goals as goal
 
 pub returns-in_default : goal.returns-in_default
-returns-in_default g c = beside_nothing _ g.D.Disk.tells _ c.args.provers c.args.orders.count (g.S.Source.state c.args.source.now) (g.N.Notary.state c.args.notary.now) c.requires.room c.requires.none
+returns-in_default g c = beside_nothing _ g.D.Disk.tells _ c.args.provers c.args.orders.count (g.S.Source.state c.args.source.now) (g.N.Notary.state c.args.notary.now) c.requires.room (c.requires.none, c.requires.fits.clear c.requires.none)
 
 pub close-requires-clause-writer : goal.close-requires-clause-writer
 close-requires-clause-writer g c = book_kept (posted_by c.run_lent-met.new.follower) (posted_by c.in-Ok.boarded.posting) c.run_lent-met.ensures.same ∙ c.in-Ok.ensures.writer
