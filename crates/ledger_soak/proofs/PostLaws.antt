@@ -104,11 +104,9 @@ module _ (k : Known) (a b : State) (disks : Pair) (in_a : Bool) (edition : Editi
 -- ---- the counts of faults play no part
 
 pub holds_same : (w t : World) → SameButFaults w t → (h : History) → Holds true w h → Holds true t h
-holds_same w t same h p = record {
-  told = p.told;
-  keeps = rw same.kept p.keeps;
-  disks = rw (same.kept, same.a, same.b) p.disks;
-}
+holds_same w t same h p =
+    subst (λ (k : CommitterState). Holds true (world k t.disks t.sink) h) (sym same.kept)
+    (record { told = p.told; keeps = p.keeps; disks = rw (same.a, same.b) p.disks })
 
 -- what is asked of a file doesn't depend on the counts either
 pub fits_same : (kept : CommitterState) (p q : Pair) (sink : SinkState) → q.a.bytes ≡ p.a.bytes → q.a.told ≡ p.a.told → q.b.bytes ≡ p.b.bytes → q.b.told ≡ p.b.told → Fits true (world kept p sink) → Fits true (world kept q sink)
@@ -118,6 +116,12 @@ fits_same kept p q sink a at b bt f = record {
   copy = f.copy;
   few = f.few;
   order = f.order;
+  next = f.next;
+  some = f.some;
+  room = f.room;
+  spelled = f.spelled;
+  owed = f.owed;
+  clear = f.clear;
 } where
   reads_so : (in_a : Bool) → ReadsAsLeft true kept.gate (open_of in_a p.a p.b) → ReadsAsLeft true kept.gate (open_of in_a q.a q.b)
   reads_so true r = record { told = rw at r.told; shut = λ t. rw a (r.shut t) }

@@ -24,9 +24,10 @@ use Rattle.ledger_model.proofs.GrowLaws.{close_none, close_settled, grows_close,
 use Rattle.ledger_open.specs.Standing.{PairFor}
 use Rattle.time_peg.specs.Entries.{NotaryState}
 use Rattle.batch_committer.proofs.Attends.{unstamped}
+use Rattle.batch_committer.proofs.Grouped.{stored_whole}
 use Rattle.batch_committer.proofs.WayLaws.{goes_then, ended_then, ended_wider}
 use Rattle.batch_committer.specs.Attending.{step_in, TakesJob, EndsAt, EndsUnasked, EndsTaking}
-use Rattle.batch_committer.specs.World.{World, Pair, CommitterState, world, Holds, Goes, EndsOnTheWay, LeftStanding}
+use Rattle.batch_committer.specs.World.{World, Pair, CommitterState, world, Holds, Goes, EndsOnTheWay, LeftStanding, stored_part}
 use Rattle.batch_committer.specs.declared.failure.CommitErr.{CommitErr}
 use Rattle.batch_committer.specs.declared.failure.CommitErr.TheVariants.{DiskFault}
 use Rattle.ledger_soak.specs.Posts.{TakesWindow, StopsInWindow, StopsBefore, StopsTaking}
@@ -95,6 +96,10 @@ either_left h g done end i j none ended few l =
       | inr is ↦ inr (subst (PairFor i j) is l.stands.pair)
     ]
 
+-- .. or, where all blocks that ended were stored, for one of the two
+pub either_stored : (k : CommitterState) (h g : History) (done : List Due) (end : CommitErr) (i j : List ℕ) → k.ended ≡ 0 → h.waiting ≡ [] → g.waiting ≡ [] → length g.closed ≤ length h.closed + 1 → LeftStanding (stored_part k h) g done end i j → PairFor i j h ⊎ PairFor i j g
+either_stored k h g done end i j stored none ended few l = either_left h g done end i j none ended few (subst (λ (f : History). LeftStanding f g done end i j) (stored_whole k h stored none) l)
+
 -- ---- the history doesn't depend on the sink
 
 pub holds_sink : (k : CommitterState) (disks : Pair) (old new : SinkState) (h : History) → Holds true (world k disks old) h → Holds true (world k disks new) h
@@ -142,7 +147,7 @@ module _ (w : World) (sink : SinkState) (mid t : World) (n m : NotaryState) (job
         }
 
   -- the disk failed at the end of the window
-  module _ (ended : EndsOnTheWay true mid close (λ h. []) DiskFault t) where
+  module _ (stored : w.kept.ended ≡ 0) (ended : EndsOnTheWay true mid close (λ h. []) DiskFault t) where
     way_down : EndsOnTheWay true v behind due DiskFault t
     way_down = ended_then true v mid t (λ h. after_job h step job) close due (λ h. []) DiskFault takes.goes ended
 
@@ -150,13 +155,13 @@ module _ (w : World) (sink : SinkState) (mid t : World) (n m : NotaryState) (job
     window_stopped = record {
       leaves = λ h p none i j a b.
           let x = way_down.stops h (holds_there h p) in
-          either_left h (behind h) x.done DiskFault i j none (close_none (after_job h step job)) (one_block h step job none) (x.images i j a b);
+          either_stored w.kept h (behind h) x.done DiskFault i j stored none (close_none (after_job h step job)) (one_block h step job none) (x.images i j a b);
       attended = λ h p. takes.attended h (holds_there h p);
     }
 
 -- ---- the disk failed at the job itself
 
-module _ (w : World) (sink : SinkState) (t : World) (n m : NotaryState) (job : Job) where
+module _ (w : World) (sink : SinkState) (t : World) (n m : NotaryState) (job : Job) (stored : w.kept.ended ≡ 0) where
   abbrev u : World
   u = world w.kept w.disks sink
 
@@ -167,7 +172,7 @@ module _ (w : World) (sink : SinkState) (t : World) (n m : NotaryState) (job : J
       let wide = ended_wider true u t (λ h. after_job h step job) g (λ h. due_of h step job ∷ []) (λ h. []) DiskFault (λ h p. grows_close (after_job h step job)) e.ended in record {
         leaves = λ h p none i j a b.
             let x = wide.stops h (holds_sink w.kept w.disks w.sink sink h p) in
-            either_left h (g h) x.done DiskFault i j none (close_none (after_job h step job)) (one_block h step job none) (x.images i j a b);
+            either_stored w.kept h (g h) x.done DiskFault i j stored none (close_none (after_job h step job)) (one_block h step job none) (x.images i j a b);
         attended = λ h p. e.attended h (holds_sink w.kept w.disks w.sink sink h p);
       }
 
@@ -192,7 +197,7 @@ module _ (w : World) (sink : SinkState) (t : World) (n m : NotaryState) (job : J
         let wide = ended_wider true u t (λ h. after_job h step job) g (λ h. []) (λ h. []) DiskFault (λ h p. grows_close (after_job h step job)) e.ended in
         let x = wide.stops h (holds_sink w.kept w.disks w.sink sink h p) in
         let same : g h ≡ h = ap (λ (j : Job). close (after_job h step j)) e.anchor ∙ ap (λ (o : NotaryState). close (after_job h (step_in n o true 0 1 line) Anchor)) e.same ∙ unasked_same h line none in
-        let either = either_left h (g h) x.done DiskFault i j none (close_none (after_job h step job)) (one_block h step job none) (x.images i j a b) in
+        let either = either_stored w.kept h (g h) x.done DiskFault i j stored none (close_none (after_job h step job)) (one_block h step job none) (x.images i j a b) in
         elim either [ inl at ↦ inl at | inr at ↦ inr (subst (PairFor i j) same at) ];
     same = e.same;
   }

@@ -36,6 +36,7 @@ returns-clause-err c =
     let now = world c.flush.new.self.kept (pair (fused_disk c.flush.new.a) (fused_disk c.flush.new.b)) (sink_state c.flush.new.sink) in
     let view = ap (λ (p : Posted). p.world) c.self.view_is in
     let taken = rw (c.requires.line.0, c.requires.line.1) at c.in-Ok.ensures.ok in
+    let stored = (c.self.invariant (ap (λ (p : Posted). p.ended) c.self.view_is ∙ c.requires.open)).0.clear (ap (λ (p : Posted). p.world.kept.dues) c.self.view_is ∙ c.requires.dues) in
     elim c.match-flush.branch [
       | in-Ok-flush w ↦ rw w.result-is tt
       | in-Err-flush w ↦
@@ -43,7 +44,7 @@ returns-clause-err c =
           let ended = rw (stopped_by w.in-Err-flush.end (sym w.from-in-Err-flush.ensures ∙ stopped)) at (w.in-Err-flush.ensures.err c.in-Ok.ensures.ended) in
           rw (sym view) (inl (
             taken.0,
-            λ line. window_stopped before sink mid now (notary_state c.args.notary.now) (notary_state c.offer.new.notary) c.args.item.job taken.0 line (taken.1 line) ended,
+            λ line. window_stopped before sink mid now (notary_state c.args.notary.now) (notary_state c.offer.new.notary) c.args.item.job taken.0 line (taken.1 line) stored ended,
           )))
     ]
 
@@ -54,5 +55,7 @@ returns-in-Err-clause-err c = λ stopped.
     let sink = sink_state c.in_ok-self-inside.field-0 in
     let now = world c.offer.new.self.kept (pair (fused_disk c.offer.new.a) (fused_disk c.offer.new.b)) (sink_state c.offer.new.sink) in
     let view = ap (λ (p : Posted). p.world) c.self.view_is in
-    let ends = rw (c.requires.line.0, c.requires.line.1, stopped_by c.in-Err.end (sym c.from.ensures ∙ stopped)) at (c.in-Err.ensures.err (ap (λ (p : Posted). p.ended) c.self.view_is ∙ c.requires.open)) in
-    rw (sym view) (taking_stopped before sink now (notary_state c.args.notary.now) (notary_state c.offer.new.notary) c.args.item.job ends)
+    let open_now = ap (λ (p : Posted). p.ended) c.self.view_is ∙ c.requires.open in
+    let stored = (c.self.invariant open_now).0.clear (ap (λ (p : Posted). p.world.kept.dues) c.self.view_is ∙ c.requires.dues) in
+    let ends = rw (c.requires.line.0, c.requires.line.1, stopped_by c.in-Err.end (sym c.from.ensures ∙ stopped)) at (c.in-Err.ensures.err open_now) in
+    rw (sym view) (taking_stopped before sink now (notary_state c.args.notary.now) (notary_state c.offer.new.notary) c.args.item.job stored ends)
