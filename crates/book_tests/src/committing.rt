@@ -10,7 +10,7 @@ use journal_record::{
 };
 use ledger_book::{Job, Prepared};
 use ledger_bytes::{Bytes, Digest, NoMemory};
-use ledger_disk::{Disk, FuseDisk, MemDisk, Pick};
+use ledger_disk::{Disk, MemDisk};
 use ledger_io::{MemSink, Sink};
 use ledger_model::{Genesis, Limits};
 use ledger_open::{OpenErr, init, reopen};
@@ -23,7 +23,7 @@ use std::test::Fail;
 use std::thread::Threads;
 
 // The keys of the operator, the regulator and a third member.
-const OPERATOR: Digest = Digest([1; 32]);
+pub(crate) const OPERATOR: Digest = Digest([1; 32]);
 
 const REGULATOR: Digest = Digest([2; 32]);
 
@@ -113,7 +113,7 @@ const CONTENT_AT: usize = 822;
 const WHO_AT: usize = 825;
 
 // More room than any of these runs takes.
-const AMPLE: usize = 65_536;
+pub(crate) const AMPLE: usize = 2_097_152;
 
 /// The job of a record of a member: without a name it has no clue, and by 0 it has no number.
 fn record(
@@ -203,7 +203,7 @@ fn make<D: Disk>(alloc: Global, a: &mut D, b: &mut D) -> Result<(), Fail> {
 }
 
 /// Two disks with a new ledger.
-fn new_pair(alloc: Global) -> Result<(MemDisk, MemDisk), Fail> {
+pub(crate) fn new_pair(alloc: Global) -> Result<(MemDisk, MemDisk), Fail> {
     let mut a = empty_disk(alloc)?;
     let mut b = empty_disk(alloc)?;
     make(alloc, &mut a, &mut b)?;
@@ -256,7 +256,7 @@ fn job_of(alloc: Global, id: &Digest, ask: Ask) -> Result<Job, NoMemory>
 
 /// A committer with its disks, its sink and a notary, which meet what the next call asks for.
 #[derive(Drop)]
-struct Bench<D: Disk + Drop, K: Sink + Drop> {
+pub(crate) struct Bench<D: Disk + Drop, K: Sink + Drop> {
     committer: Committer,
     a: D,
     b: D,
@@ -279,7 +279,7 @@ impl<D: Disk + Drop, K: Sink + Drop> Model for Bench<D, K> {
 
 impl<D: Disk + Drop, K: Sink + Drop> Bench<D, K> {
     /// Opens the ledger on these disks.
-    fn open<R: Threads>(
+    pub(crate) fn open<R: Threads>(
         rt: &R,
         alloc: Global,
         mut a: D,
@@ -298,12 +298,12 @@ impl<D: Disk + Drop, K: Sink + Drop> Bench<D, K> {
         }
     }
 
-    fn id(&self) -> Digest {
+    pub(crate) fn id(&self) -> Digest {
         self.committer.id()
     }
 
     /// The size of the ledger where its last block ended.
-    fn size(&self) -> u64 {
+    pub(crate) fn size(&self) -> u64 {
         self.committer.opened().book.head().size
     }
 
@@ -311,11 +311,15 @@ impl<D: Disk + Drop, K: Sink + Drop> Bench<D, K> {
     fn offer(&mut self, index: u64, job: Job) -> Result<(), CommitErr>
         requires { fits_job job ≡ true }
     {
-        let item = Prepared {
+        self.offer_item(Prepared {
             lane: 0,
             index,
             job,
-        };
+        })
+    }
+
+    /// Offers a job.
+    pub(crate) fn offer_item(&mut self, item: Prepared) -> Result<(), CommitErr> {
         self.committer.offer(
             &mut self.a,
             &mut self.b,
@@ -325,17 +329,31 @@ impl<D: Disk + Drop, K: Sink + Drop> Bench<D, K> {
         )
     }
 
-    fn flush(&mut self) -> Result<(), CommitErr> {
+    pub(crate) fn flush(&mut self) -> Result<(), CommitErr> {
         self.committer
             .flush(&mut self.a, &mut self.b, &mut self.sink)
     }
 
-    fn into_parts(self) -> (D, D, K) {
+    pub(crate) fn settle(&mut self) -> Result<(), CommitErr> {
+        self.committer
+            .settle(&mut self.a, &mut self.b, &mut self.sink)
+    }
+
+    /// Whether the files have all blocks that ended.
+    pub(crate) fn is_stored(&self) -> bool {
+        self.committer.is_stored()
+    }
+
+    pub(crate) fn sink(&self) -> &K {
+        &self.sink
+    }
+
+    pub(crate) fn into_parts(self) -> (D, D, K) {
         (self.a, self.b, self.sink)
     }
 
     /// Offers so many records of the operator without content.
-    fn offer_records(&mut self, alloc: Global, count: u64) -> Result<(), CommitErr> {
+    pub(crate) fn offer_records(&mut self, alloc: Global, count: u64) -> Result<(), CommitErr> {
         let id = self.id();
         for index in 1..=count {
             let job = job_of(alloc, &id, EMPTY)?;
@@ -361,18 +379,19 @@ impl<D: Disk + Drop, K: Sink + Drop> Bench<D, K> {
     }
 }
 
-/// What came of some records and a flush, and what stood before the flush: the size where the last block ended, and how
-/// many lines were written.
+/// What came of some records, a call to settle and a flush, and what stood before these two: the size where the last block
+/// ended, and how many lines were written.
 #[derive(Clone, Copy, Debug, PartialEq, Eq)]
-struct Run {
+pub(crate) struct Run {
     offered: Result<(), CommitErr>,
     size: u64,
     lines: usize,
+    pub(crate) settled: Result<(), CommitErr>,
     flushed: Result<(), CommitErr>,
 }
 
-/// Opens the ledger on these disks, offers so many records of the operator without content, and flushes.
-fn run_records<R: Threads, D: Disk + Drop>(
+/// Opens the ledger on these disks, offers so many records of the operator without content, settles, and flushes.
+pub(crate) fn run_records<R: Threads, D: Disk + Drop>(
     rt: &R,
     alloc: Global,
     a: D,
@@ -385,12 +404,14 @@ fn run_records<R: Threads, D: Disk + Drop>(
     let offered = bench.offer_records(alloc, count);
     let size = bench.size();
     let lines = lines_in(bench.sink.written());
+    let settled = bench.settle();
     let flushed = bench.flush();
     let (a, b, sink) = bench.into_parts();
     let run = Run {
         offered,
         size,
         lines,
+        settled,
         flushed,
     };
     Ok((run, sink, a, b))
@@ -411,7 +432,12 @@ fn run_lines<R: Threads>(
 }
 
 /// The size of the ledger on these disks.
-fn size_on<R: Threads, D: Disk + Drop>(rt: &R, alloc: Global, a: D, b: D) -> Result<u64, OpenErr> {
+pub(crate) fn size_on<R: Threads, D: Disk + Drop>(
+    rt: &R,
+    alloc: Global,
+    a: D,
+    b: D,
+) -> Result<u64, OpenErr> {
     let (mut a, mut b) = (a, b);
     match reopen(rt, alloc, &mut a, &mut b, Limits::real()) {
         Ok(opened) => Ok(opened.book.head().size),
@@ -420,7 +446,7 @@ fn size_on<R: Threads, D: Disk + Drop>(rt: &R, alloc: Global, a: D, b: D) -> Res
 }
 
 /// How many lines these bytes have.
-fn lines_in(bytes: &[u8]) -> usize {
+pub(crate) fn lines_in(bytes: &[u8]) -> usize {
     let mut lines = 0usize;
     for byte in bytes {
         if *byte == b'\n' {
@@ -430,7 +456,7 @@ fn lines_in(bytes: &[u8]) -> usize {
     lines
 }
 
-fn sink_of(alloc: Global, room: usize) -> Result<MemSink, NoMemory> {
+pub(crate) fn sink_of(alloc: Global, room: usize) -> Result<MemSink, NoMemory> {
     MemSink::new(alloc, room, Vec::new(alloc))
 }
 
@@ -454,7 +480,14 @@ fn set_byte(bytes: &mut [u8], at: usize, to: u8) {
 #[test]
 fn blocks_end_where_they_are_full_and_by_a_flush(rt: HostRuntime) -> Result<(), Fail> {
     let alloc = rt.alloc();
-    let rows = [(63, 1, 0), (64, 65, 64), (65, 65, 64)];
+    // A group is committed once it has 64 blocks.
+    let rows = [
+        (63, 1, 0),
+        (64, 65, 0),
+        (65, 65, 0),
+        (4095, 4033, 0),
+        (4096, 4097, 4096),
+    ];
     for (count, size, lines) in rows {
         let (a, b) = new_pair(alloc)?;
         let (run, sink, a, b) = run_records(&rt, alloc, a, b, AMPLE, count)?;
@@ -462,6 +495,7 @@ fn blocks_end_where_they_are_full_and_by_a_flush(rt: HostRuntime) -> Result<(), 
             offered: Ok(()),
             size,
             lines,
+            settled: Ok(()),
             flushed: Ok(()),
         };
         let text = sink.written();
@@ -473,57 +507,6 @@ fn blocks_end_where_they_are_full_and_by_a_flush(rt: HostRuntime) -> Result<(), 
     Ok(())
 }
 
-/// What came of a run of 64 records whose first disk stops after so many calls, and the disks that it leaves.
-fn run_until<R: Threads>(
-    rt: &R,
-    alloc: Global,
-    stop: u64,
-) -> Result<(Run, MemSink, MemDisk, MemDisk), Fail> {
-    let (a, b) = new_pair(alloc)?;
-    let (a, b) = (FuseDisk::new(a, stop), FuseDisk::new(b, 9));
-    let (run, sink, a, b) = run_records(rt, alloc, a, b, AMPLE, 64)?;
-    Ok((run, sink, a.into_inner(), b.into_inner()))
-}
-
-/// The sizes of the ledger on what these disks leave: all that was written, nothing of it, and any bytes in its place.
-fn sizes_left<R: Threads>(
-    rt: &R,
-    alloc: Global,
-    a: &MemDisk,
-    b: &MemDisk,
-) -> Result<[u64; 3], Fail> {
-    let mut sizes = [0; 3];
-    let picks = [Pick::AllWritten, Pick::NoneWritten, Pick::Torn(1)];
-    for (size, pick) in sizes.iter_mut().zip(picks) {
-        *size = size_on(rt, alloc, a.crash(pick)?, b.crash(pick)?)?;
-    }
-    Ok(sizes)
-}
-
-#[test]
-fn every_written_receipt_is_kept_wherever_a_disk_stops(rt: HostRuntime) -> Result<(), Fail> {
-    let alloc = rt.alloc();
-    // Opening takes two of the calls, and a commit five.
-    for stop in 2..9 {
-        let (run, sink, a, b) = run_until(&rt, alloc, stop)?;
-        let lines = lines_in(sink.written());
-        let found = (
-            run.offered,
-            run.flushed,
-            lines,
-            sizes_left(&rt, alloc, &a, &b)?,
-        );
-        let (fault, closed) = (Err(CommitErr::DiskFault), Err(CommitErr::Closed));
-        let wanted = match stop {
-            2..6 => (fault, closed, 0, [1; 3]),
-            6 => (fault, closed, 0, [65, 1, 1]),
-            _ => (Ok(()), Ok(()), 64, [65; 3]),
-        };
-        assert_eq!(rt; found, wanted, "at {stop}");
-    }
-    Ok(())
-}
-
 #[test]
 fn a_fault_of_the_sink_ends_the_run(rt: HostRuntime) -> Result<(), Fail> {
     let alloc = rt.alloc();
@@ -531,7 +514,7 @@ fn a_fault_of_the_sink_ends_the_run(rt: HostRuntime) -> Result<(), Fail> {
     let (run, sink, a, b) = run_records(&rt, alloc, a, b, 100, 64)?;
     let written = sink.written().len();
     let found = (
-        run.offered,
+        run.settled,
         run.flushed,
         written,
         size_on(&rt, alloc, a, b)?,

@@ -7,4 +7,6 @@ mod books;
 #[cfg(test)]
 mod committing;
 #[cfg(test)]
+mod grouping;
+#[cfg(test)]
 mod opening;
