@@ -274,7 +274,10 @@ fn answers_what_was_given_before_more_is_read(rt: HostRuntime) -> Result<(), Fai
     let alloc = rt.alloc();
     assert_eq!(rt; answered_at_once(&rt, alloc, "0 head\n", 1, 20)?, (20, 20));
     for (lines, most) in [(64, 640), (128, 1_280)] {
-        assert_eq!(rt; answered_at_once(&rt, alloc, EMPTY, lines, most)?, (most, most));
+        assert_eq!(rt;
+            answered_at_once(&rt, alloc, EMPTY, lines, most)?,
+            (most, most)
+        );
     }
     Ok(())
 }
