@@ -87,6 +87,8 @@ fields_are (refusals.Full kept size) = (number_word kept, (number_word size, tt)
 fields_are (refusals.BadSize size) = (number_word size, tt)
 fields_are refusals.CluesFull = tt
 fields_are (refusals.NumberTaken jsn) = (number_word jsn, tt)
+fields_are (refusals.ClueDiffers count) = (number_word count, tt)
+fields_are refusals.NothingToHide = tt
 
 reply_are : (given : Reply) → AreWords (reply_words given)
 reply_are reply.Yes = (literal (codes "yes") refl, tt)

@@ -55,6 +55,7 @@ first_own x kind.Member ok = absurd cc
 first_own x kind.Time ok = tt
 first_own x kind.Occult ok = absurd cc
 first_own x kind.Purge ok = absurd cc
+first_own x kind.ClueOccult ok = absurd cc
 
 first_kind : (x : Header) → IsNextBehind None [] x → IsTrue (jsn_ok x.kind 0)
 first_kind x next = subst (λ n. IsTrue (jsn_ok x.kind n)) next.jsn next.layout.jsn
@@ -91,6 +92,7 @@ never_erased kind.Member ok erased = absurd cc
 never_erased kind.Time ok erased = absurd cc
 never_erased kind.Occult ok erased = absurd cc
 never_erased kind.Purge ok erased = absurd cc
+never_erased kind.ClueOccult ok erased = absurd cc
 
 founded_by : (x : Header) (body : Option (List ℕ)) → IsTrue (jsn_ok x.kind 0) → FitsHeader x body → IfSome body (λ content. x.content_digest.0 ≡ content_digest_of content)
     → x.content_digest.0 ≡ content_digest_of (unwrap_or body [])

@@ -14,7 +14,7 @@ use Rattle.ledger_bytes.specs.Fields.{Unread, left_from, end_at, IsBytes}
 use Rattle.ledger_bytes.proofs.Fields.{bind_ok, check_ok, IsBytes-take, IsBytes-drop}
 use Rattle.journal_record.specs.declared.header.Header.{Header}
 use Rattle.journal_record.specs.declared.header.Kind.{Kind}
-use Rattle.journal_record.specs.declared.header.Kind.TheVariants.{Genesis, Content, Member, Time, Occult, Purge}
+use Rattle.journal_record.specs.declared.header.Kind.TheVariants.{Genesis, Content, Member, Time, Occult, Purge, ClueOccult}
 use Rattle.journal_record.specs.Header as journals
 use Rattle.journal_record.specs.Reading.{header_at, header_of}
 use Rattle.journal_record.proofs.ReadingLaws.{IsWhole, header_back, header_of_only}
@@ -35,6 +35,7 @@ time_kind Member e = absurd cc
 time_kind Time e = refl
 time_kind Occult e = absurd cc
 time_kind Purge e = absurd cc
+time_kind ClueOccult e = absurd cc
 
 -- what bytes are read as is a header with this spelling, whose fields have their widths
 whole_header : (bytes : List ℕ) (h : Header) → IsBytes bytes → header_of bytes ≡ Ok h → IsWhole h × (bytes ≡ journals.spelling h)

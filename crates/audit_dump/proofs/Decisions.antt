@@ -74,6 +74,7 @@ by_kind scheme id start before item needed root kind.Content asked = (λ is. is,
 by_kind scheme id start before item needed root kind.Member asked = (λ is. is, λ is. is)
 by_kind scheme id start before item needed root kind.Time asked = (λ is. is, λ is. is)
 by_kind scheme id start before item needed root kind.Occult asked = (λ is. is, λ is. is)
+by_kind scheme id start before item needed root kind.ClueOccult asked = (λ is. is, λ is. is)
 by_kind scheme id start before item needed root kind.Purge asked = purge_here scheme id start before item needed root (asked refl)
 
 -- what is decided among the members that are known is what is to be decided

@@ -87,6 +87,7 @@ is_time_is kind.Content is = absurd cc
 is_time_is kind.Member is = absurd cc
 is_time_is kind.Time is = refl
 is_time_is kind.Occult is = absurd cc
+is_time_is kind.ClueOccult is = absurd cc
 is_time_is kind.Purge is = absurd cc
 
 module _ (id : Digest) (start : Option Base) (items : List Item) (tail : Tail) where

@@ -43,6 +43,7 @@ first_own x kind.Content ok = absurd cc
 first_own x kind.Member ok = absurd cc
 first_own x kind.Time ok = tt
 first_own x kind.Occult ok = absurd cc
+first_own x kind.ClueOccult ok = absurd cc
 first_own x kind.Purge ok = absurd cc
 
 first_next : (x : Header) → IsNext (history [] []) x → IsNextBehind None [] x

@@ -9,8 +9,8 @@ use Rattle.ledger_bytes.specs.Fields.{Unread, left_from, ◌>>=◌, bytes_at, nu
 use Rattle.journal_record.specs.declared.approval.TheConstants.{WHO_LIMIT}
 use Rattle.journal_record.specs.declared.header.Header.{Header}
 use Rattle.journal_record.specs.declared.header.Kind.{Kind}
-use Rattle.journal_record.specs.Reading.{carried_at, layout_at, front_at, clue_at, own_at, parts_at, fields_at, header_at, known_version, known_kind}
-use Rattle.journal_record.specs.Rules.{kind_of, is_version, version_of, carries_a, carries_len, jsn_ok, member_ok, clue_ok, clue_ord_ok, clue_prev_ok, a_ok, b_ok, content_len_ok}
+use Rattle.journal_record.specs.Reading.{carried_at, layout_at, front_at, clue_at, own_at, parts_at, fields_at, header_at, known_version, known_kind, kind_in}
+use Rattle.journal_record.specs.Rules.{kind_of, is_version, version_of, carries_a, carries_len, jsn_ok, member_ok, clue_ok, clue_ord_ok, clue_prev_ok, a_ok, b_ok, link_ok, is_kind_in, content_len_ok}
 use Rattle.journal_record.specs.Items.{Item, content_at, body_at, state_ok, who_place, who_at, item_at}
 use Rattle.journal_record.proofs.ReadingLaws.{header_back}
 use Rattle.audit_dump.specs.Walking.{field_place, in_whole}
@@ -36,9 +36,9 @@ abbrev IsPlain : {A : Type 0} → ℕ → Result A Bad → Type 0
 IsPlain most (Ok x) = ⊤
 IsPlain most (Err bad) = ((whole : ℕ) → bad ≡ in_whole whole bad) × (field_place bad ≤ most)
 
--- what a test of a version answers
-abbrev tested : Bool → ℕ → Result (Unit {0}) Bad
-tested ok version = if ok then Ok tt else Err (NewerFormat version)
+-- what a test answers that tells this break
+abbrev tested : Bool → Bad → Result (Unit {0}) Bad
+tested ok bad = if ok then Ok tt else Err bad
 
 module _ (most : ℕ) where
   bytes_move : (n : ℕ) → Moves most (bytes_at n)
@@ -130,12 +130,15 @@ module _ (most : ℕ) where
 
   -- ---- a header
 
-  test_plain : (ok : Bool) (version : ℕ) → IsPlain most (tested ok version)
-  test_plain true version = tt
-  test_plain false version = (λ whole. refl, omega arith)
+  test_plain : (ok : Bool) (bad : Bad) → ((whole : ℕ) → bad ≡ in_whole whole bad) → field_place bad ≤ most → IsPlain most (tested ok bad)
+  test_plain true bad placeless low = tt
+  test_plain false bad placeless low = (placeless, low)
 
   version_plain : (version : ℕ) → IsPlain most (known_version version)
-  version_plain version = test_plain (is_version version) version
+  version_plain version = test_plain (is_version version) (NewerFormat version) (λ whole. refl) (omega arith)
+
+  kind_in_plain : (version : ℕ) (kind : Kind) (code : ℕ) → IsPlain most (kind_in version kind code)
+  kind_in_plain version kind code = test_plain (is_kind_in version kind) (BadKind code) (λ whole. refl) (omega arith)
 
   kind_plain : (code : ℕ) → IsPlain most (known_kind code)
   kind_plain code = go (kind_of code)
@@ -164,7 +167,8 @@ module _ (most : ℕ) where
     unfolding own_at
     own_moves version kind jsn = moves_then (number_at w64) _ (number_moves w64)
         (λ a. moves_check (a_ok kind jsn a && carries_a version kind a) 58 _ (omega (arith, some)) (moves_then (number_at w64) _ (number_moves w64)
-        (λ b. moves_check (b_ok kind b) 66 _ (omega (arith, some)) (moves_then digest_at _ digest_moves (λ link. nothing_moves _)))))
+        (λ b. moves_check (b_ok kind b) 66 _ (omega (arith, some)) (moves_then digest_at _ digest_moves
+        (λ link. moves_check (link_ok kind link) 74 _ (omega (arith, some)) (nothing_moves _))))))
 
     parts_move : (version : ℕ) (kind : Kind) → Moves most (parts_at version kind)
     unfolding parts_at
@@ -193,7 +197,8 @@ module _ (most : ℕ) where
     unfolding layout_at
     layout_moves = moves_then (number_at w8) _ (number_moves w8)
         (λ version. moves_after (known_version version) _ (version_plain version) (λ _. moves_then (number_at w8) _ (number_moves w8)
-        (λ code. moves_after (known_kind code) _ (kind_plain code) (λ kind. carried_moves version kind))))
+        (λ code. moves_after (known_kind code) _ (kind_plain code)
+        (λ kind. moves_after (kind_in version kind code) _ (kind_in_plain version kind code) (λ _. carried_moves version kind)))))
 
     header_moves : Moves most header_at
     unfolding header_at

@@ -20,7 +20,7 @@ use Rattle.audit_dump.specs.Claims.{claim_by, claim_of, claims_of}
 use Rattle.audit_dump.specs.Ending.{IsOwnId}
 use Rattle.audit_dump.specs.Journals.{AreCounted, AreKept, AreOneBehind, IsSought, IsToldAt}
 use Rattle.audit_dump.specs.Known.{journal_of, journals_of, root_behind}
-use Rattle.audit_dump.specs.Notes.{AreInOrder, Erased, mark_of, marks_of}
+use Rattle.audit_dump.specs.Notes.{AreInOrder, AreMarksOf, Erased, mark_of, marks_of}
 use Rattle.audit_dump.specs.Passing.{Passed, StandsAfter}
 use Rattle.audit_dump.specs.Reading.{Early, FailsBy, IsGood}
 use Rattle.audit_dump.specs.Reports.{Counts}
@@ -57,6 +57,7 @@ occult_below kind.Member jsn a is ok = absurd cc
 occult_below kind.Time jsn a is ok = absurd cc
 occult_below kind.Occult jsn a is ok = ltb-true a jsn ok
 occult_below kind.Purge jsn a is ok = absurd cc
+occult_below kind.ClueOccult jsn a is ok = absurd cc
 
 -- the number of the next journal
 pub next_is : (start : Option Base) (items : List Item) (x : Item) → IsNextBehind start (journals_of items) x.header → x.header.jsn ≡ first_of start + length items
@@ -111,7 +112,7 @@ module _ (id : List ℕ) (start : Option Base) (items : List Item) (x : Item) (o
 -- ---- all that is kept
 
 pub noted : (id : Digest) (start : Option Base) (items : List Item) (x : Item) (old : Journals) (own : Digest) (purge : Option BasePurge) (erasures : Erased) (claims : List Claim) → AreOneBehind id start items x old
-    → IsOwnId start (items ++ x ∷ []) own → IsSought purge start (items ++ x ∷ []) → (erasures.marks ≡ marks_of (items ++ x ∷ [])) × (erasures.first ≡ old.erasures.first)
+    → IsOwnId start (items ++ x ∷ []) own → IsSought purge start (items ++ x ∷ []) → AreMarksOf (items ++ x ∷ []) erasures × (erasures.first ≡ old.erasures.first)
     → claims ≡ claims_of id.0 start (items ++ x ∷ []) → AreKept id start (items ++ x ∷ []) (record { id = old.id; own = Some own; standing = old.standing; erasures = erasures; purge = purge; claims = claims })
 noted id start items x old own purge erasures claims k owned sought marks claimed = record {
   held = record {
@@ -141,12 +142,12 @@ pub counted : (id : Digest) (start : Option Base) (items : List Item) (j : Journ
     → erased ≡ count_by (λ (m : Mark). m.erased) j.erasures.marks → claims ≡ length j.claims
     → Counts start items (record { size = first + count; kept = count; point = first; occulted = erased; times = claims; fault = None })
 counted id start items j first count erased claims is one two three four =
-    let kept : count ≡ length items = two ∙ ap length is.marked.marks ∙ length-map items (mark_of items) in
+    let kept : count ≡ length items = two ∙ ap length is.marked.marks.marks ∙ length-map items (mark_of items) in
     record {
       size = omega (arith, one, is.marked.first, kept);
       kept = kept;
       point = one ∙ is.marked.first;
-      occulted = three ∙ ap (count_by (λ (m : Mark). m.erased)) is.marked.marks ∙ erased_count items items;
+      occulted = three ∙ ap (count_by (λ (m : Mark). m.erased)) is.marked.marks.marks ∙ erased_count items items;
       times = four ∙ ap length is.claims
           ∙ length-map (filter (λ (item : Item). is_time item.header.kind) items) (claim_of id.0 start (journals_of items)) ∙ length-filter (λ (item : Item). is_time item.header.kind) items;
     }

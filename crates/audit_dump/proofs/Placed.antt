@@ -6,12 +6,13 @@ use Rattle.ledger_bytes.specs.declared.digest.Digest.{Digest}
 use Rattle.ledger_bytes.specs.declared.refusal.Refusal.{Refusal}
 use Rattle.ledger_bytes.specs.declared.refusal.Refusal.TheVariants.{WrongKey, RootDiffers}
 use Rattle.journal_record.specs.Members.{is_key_of, number_refusal}
-use Rattle.journal_record.specs.Request.{member_request_digest_of, occult_request_digest_of, purge_request_digest_of}
+use Rattle.journal_record.specs.Request.{member_request_digest_of, occult_request_digest_of, clue_occult_request_digest_of, purge_request_digest_of}
 use Rattle.journal_record.specs.declared.header.Kind.TheVariants as kind
 use Rattle.member_book.specs.Approvals.{approvals_refusal}
-use Rattle.member_book.specs.Erasures.{first_refusal, target_row, point_row, absent, purged_up_to, no_time, other_root}
+use Rattle.member_book.specs.Erasures.{first_refusal, target_row, clue_row, point_row, absent, purged_up_to, no_time, other_root}
 use Rattle.script_lines.specs.declared.said.SaidApproval.{SaidApproval}
-use Rattle.ledger_model.specs.Appends.{append_with, append_header, member_job, member_header, occult_job, occult_header, purge_job, purge_header, approval_of, request_with}
+use Rattle.ledger_model.specs.Appends.{append_with, append_header, member_job, member_header, occult_job, occult_header, clue_occult_job, clue_occult_header, purge_job, purge_header, approval_of, clue_of, request_with}
+use Rattle.ledger_model.specs.Clues.{jsns_with}
 use Rattle.ledger_model.specs.History.{History, history, journals, id, size, point, root, leaf_digest}
 use Rattle.ledger_model.specs.Needs.{purge_needs}
 use Rattle.sha2.specs.Sha256.{sha256}
@@ -25,7 +26,7 @@ use Rattle.std.proofs.lemmas.Bool.{cases_Bool}
 use Rattle.std.proofs.lemmas.Slice.Eq.{bytes_eq-Decides}
 use Rattle.std.proofs.lemmas.List.{take-map}
 use Rattle.std.proofs.lemmas.Simd.{map-map}
-use Rattle.ledger_model.specs.Targets.{kind_at, hider, leaf_at}
+use Rattle.ledger_model.specs.Targets.{kind_at, hider, leaf_at, shown_with}
 use Rattle.ledger_bytes.specs.Digests.{digest}
 use Rattle.ledger_model.specs.Judgements.{own_refusal, fullness, hard_fullness, life_fullness, unknown_in, wrong_key_in}
 use Rattle.ledger_model.specs.Members.{members, keys}
@@ -34,7 +35,7 @@ use Rattle.ledger_model.specs.declared.limits.Limits.{Limits}
 use Rattle.ledger_bytes.specs.declared.limits.TheConstants.{PROOF_LIMIT}
 use Rattle.audit_dump.specs.Approvals.{IsPlacedBy, IsApprovalOf}
 use Rattle.audit_dump.specs.Known.{root_behind}
-use Rattle.audit_dump.specs.Placed.{shown_whole, record_placed, member_placed, occult_placed, purge_placed}
+use Rattle.audit_dump.specs.Placed.{shown_whole, record_placed, member_placed, occult_placed, clue_occult_placed, purge_placed}
 
 -- nothing of a row refuses
 none_first : (r : Option Refusal) (row : List (Option Refusal)) → first_refusal (r ∷ row) ≡ None → (r ≡ None) × (first_refusal row ≡ None)
@@ -87,6 +88,21 @@ module _ (scheme : Scheme) (limits : Limits) (h : History) where
       let message = occult_request_digest_of (id h) target hash.0 in
       let shown = map (λ (by : SaidApproval). approval_of scheme by.member message by.proof) given in
       let passed : approvals_refusal (keys h) shown (0 ∷ 1 ∷ []) ≡ None = none_last (target_row (size h) (point h) (kind_at h target) (hider h target) (digest (leaf_at h target)) target hash) _ (none_first (hard_fullness limits h) _ e).1 in
+      record {
+        given = shown;
+        who_is = refl;
+        shown = all_shown scheme message given fits;
+        passed = ap (λ known. approvals_refusal known shown (0 ∷ 1 ∷ [])) same_keys ∙ passed;
+      }
+
+  pub clue_occult_is : (name : List ℕ) (count : ℕ) (given : List SaidApproval) → All (λ by. length by.proof ≤ PROOF_LIMIT) given → own_refusal limits h (clue_occult_job scheme (id h) name count given) ≡ None
+      → IsPlacedBy scheme (id h) None (journals h) (shown_whole (clue_occult_placed scheme h name count given)) kind.ClueOccult
+  unfolding clue_occult_job clue_occult_header
+  clue_occult_is name count given fits e =
+      let clue = clue_of name in
+      let message = clue_occult_request_digest_of (id h) clue.0 count in
+      let shown = map (λ (by : SaidApproval). approval_of scheme by.member message by.proof) given in
+      let passed : approvals_refusal (keys h) shown (0 ∷ 1 ∷ []) ≡ None = none_last (clue_row (length (jsns_with h clue)) (length (shown_with h clue)) count) _ (none_first (hard_fullness limits h) _ e).1 in
       record {
         given = shown;
         who_is = refl;

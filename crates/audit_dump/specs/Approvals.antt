@@ -5,7 +5,7 @@ use Rattle.journal_record.specs.Approval.{who_of}
 use Rattle.journal_record.specs.Entry.{Entry}
 use Rattle.journal_record.specs.Items.{Item}
 use Rattle.journal_record.specs.Members.{is_key_of}
-use Rattle.journal_record.specs.Request.{request_digest_of, member_request_digest_of, occult_request_digest_of, purge_request_digest_of}
+use Rattle.journal_record.specs.Request.{request_digest_of, member_request_digest_of, occult_request_digest_of, clue_occult_request_digest_of, purge_request_digest_of}
 use Rattle.journal_record.specs.declared.approval.Approval.{Approval}
 use Rattle.journal_record.specs.declared.header.Header.{Header}
 use Rattle.journal_record.specs.declared.header.Kind.{Kind}
@@ -78,7 +78,7 @@ IsPlacedPurge scheme id start before item =
     × (item.header.a < first_of start → AreInForm known needed item.who)
 
 -- Those placed a journal who had to, by its kind: nobody approves journal 0 and time journals, a member its own record, the operator
--- a new member, operator and regulator an occult, and a purge the operator and those who own what it takes.
+-- a new member, operator and regulator an occult of either kind, and a purge the operator and those who own what it takes.
 abbrev pub IsPlacedBy : Scheme → List ℕ → Option Base → List Entry → Item → Kind → Type 0
 IsPlacedBy scheme id start before item kind.Genesis = item.who ≡ []
 IsPlacedBy scheme id start before item kind.Content = IsPlacedRecord scheme id (keys_behind start before) item
@@ -87,3 +87,5 @@ IsPlacedBy scheme id start before item kind.Time = item.who ≡ []
 IsPlacedBy scheme id start before item kind.Occult =
     AreOf scheme (keys_behind start before) (occult_request_digest_of id item.header.a item.header.link.0) (0 ∷ 1 ∷ []) item.who
 IsPlacedBy scheme id start before item kind.Purge = IsPlacedPurge scheme id start before item
+IsPlacedBy scheme id start before item kind.ClueOccult =
+    AreOf scheme (keys_behind start before) (clue_occult_request_digest_of id item.header.link.0 item.header.a) (0 ∷ 1 ∷ []) item.who

@@ -3,7 +3,7 @@ use Rattle.std.specs.Prelude.{◌≡◌, ℕ, ◌<◌, ◌≤◌, List, [], ◌�
 use Rattle.ledger_bytes.specs.declared.digest.Digest.{Digest}
 use Rattle.journal_record.specs.Entry.{Entry}
 use Rattle.journal_record.specs.Items.{Item}
-use Rattle.journal_record.specs.Request.{member_request_digest_of, occult_request_digest_of, purge_request_digest_of}
+use Rattle.journal_record.specs.Request.{member_request_digest_of, occult_request_digest_of, clue_occult_request_digest_of, purge_request_digest_of}
 use Rattle.journal_record.specs.declared.header.Kind.{Kind}
 use Rattle.journal_record.specs.declared.header.Kind.TheVariants as kind
 use Rattle.pseudo_genesis.specs.declared.base.Base.{Base}
@@ -40,3 +40,5 @@ IsPlacedAmong scheme id known needed root item kind.Time = item.who ≡ []
 IsPlacedAmong scheme id known needed root item kind.Occult =
     AreOf scheme known (occult_request_digest_of id item.header.a item.header.link.0) (0 ∷ 1 ∷ []) item.who
 IsPlacedAmong scheme id known needed root item kind.Purge = IsPurgeAmong scheme id known needed item root
+IsPlacedAmong scheme id known needed root item kind.ClueOccult =
+    AreOf scheme known (clue_occult_request_digest_of id item.header.link.0 item.header.a) (0 ∷ 1 ∷ []) item.who

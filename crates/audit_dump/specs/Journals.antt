@@ -15,7 +15,7 @@ use Rattle.audit_dump.specs.Claims.{claims_of}
 use Rattle.audit_dump.specs.Ending.{IsOwnId}
 use Rattle.audit_dump.specs.Fronts.{HasReadOn}
 use Rattle.audit_dump.specs.Known.{journals_of, root_behind}
-use Rattle.audit_dump.specs.Notes.{AreInOrder, IsOfBase, marks_of}
+use Rattle.audit_dump.specs.Notes.{AreInOrder, AreMarksOf, IsOfBase}
 use Rattle.audit_dump.specs.Passing.{Passed, StandsAfter, early_of}
 use Rattle.audit_dump.specs.Reading.{AreGood, FailsBy, IsGood}
 use Rattle.audit_dump.specs.Walking.{BreaksNow}
@@ -50,7 +50,7 @@ IsSought (Some purge) (Some base) items = IsOfBase base purge × (purge.found �
 -- a mark is kept of each of these journals, of which there are no more than a ledger may have
 pub record AreMarked (start : Option Base) (items : List Item) (journals : Journals) : Type 0 where
   pub first : journals.erasures.first ≡ first_of start
-  pub marks : journals.erasures.marks ≡ marks_of items
+  pub marks : AreMarksOf items journals.erasures
   pub few : first_of start + length items ≤ 2 ^ 32
 
 -- what the counts of a report need: besides, the claims of these journals

@@ -5,9 +5,9 @@ use Rattle.ledger_bytes.specs.declared.digest.Digest.{Digest}
 use Rattle.journal_record.specs.Approval.{who_of}
 use Rattle.journal_record.specs.Entry.{Entry, content_digest_of, who_digest_of}
 use Rattle.journal_record.specs.Items.{Item}
-use Rattle.journal_record.specs.Request.{member_request_digest_of, occult_request_digest_of, purge_request_digest_of}
+use Rattle.journal_record.specs.Request.{member_request_digest_of, occult_request_digest_of, clue_occult_request_digest_of, purge_request_digest_of}
 use Rattle.script_lines.specs.declared.said.SaidApproval.{SaidApproval}
-use Rattle.ledger_model.specs.Appends.{append_journal, member_journal, occult_journal, purge_journal, approval_of, request_with}
+use Rattle.ledger_model.specs.Appends.{append_journal, member_journal, occult_journal, clue_occult_journal, purge_journal, approval_of, clue_of, request_with}
 use Rattle.ledger_model.specs.History.{History, size, id}
 use Rattle.ledger_model.specs.Scheme.{Scheme}
 
@@ -30,6 +30,12 @@ member_placed scheme h number key proof = member_journal (size h) number key (ap
 abbrev pub occult_placed : Scheme → History → ℕ → Digest → List SaidApproval → Entry
 occult_placed scheme h target leaf given =
     occult_journal (size h) target leaf (map (λ by. approval_of scheme by.member (occult_request_digest_of (id h) target leaf.0) by.proof) given)
+
+-- the occult by clue that a job places
+abbrev pub clue_occult_placed : Scheme → History → List ℕ → ℕ → List SaidApproval → Entry
+clue_occult_placed scheme h name count given =
+    let request = clue_occult_request_digest_of (id h) (clue_of name).0 count in
+    clue_occult_journal (size h) (clue_of name) count (map (λ by. approval_of scheme by.member request by.proof) given)
 
 -- the purge that a job places
 abbrev pub purge_placed : Scheme → History → ℕ → Digest → List SaidApproval → Entry

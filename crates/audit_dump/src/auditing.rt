@@ -48,7 +48,7 @@ pub enum AuditErr {
 ///
 /// The source is read once, up to the first fault of the dump's form or of a journal, and else to its end. Each journal is
 /// checked as it is read, so memory grows with the number of journals, clues and members, and not with their contents: of a
-/// journal its header, its leaf and two marks are kept. Each journal's header, content and who are hashed once, and each
+/// journal its header, its leaf and its marks are kept. Each journal's header, content and who are hashed once, and each
 /// entry of the notary once. An error is told where no fault was found before.
 pub fn audit<R: Threads + Sync, S: Source, V: Verifier>(
     rt: &R,

@@ -4,7 +4,7 @@ ghost use Rattle.std.specs.Prelude.{◌≡◌, ◌↔◌, ◌<◌, ◌^◌, [], 
 ghost use Rattle.journal_record.specs.Entry.{Entry};
 ghost use Rattle.journal_record.specs.Items.{IsItem};
 ghost use Rattle.journal_record.specs.Members.{keys};
-ghost use Rattle.journal_record.specs.Request.{member_request_digest_of, occult_request_digest_of};
+ghost use Rattle.journal_record.specs.Request.{clue_occult_request_digest_of, member_request_digest_of, occult_request_digest_of};
 ghost use Rattle.journal_record.specs.declared.header.Kind.TheVariants as kind;
 ghost use Rattle.pseudo_genesis.specs.declared.base.Base.{Base};
 ghost use Rattle.ledger_model.specs.Scheme.{Scheme};
@@ -15,8 +15,8 @@ ghost use Rattle.audit_dump.specs.Prepared.{ShowsPlacing};
 
 use crate::placing::{are_in_form, are_of, is_key, is_of, key_in};
 use journal_record::{
-    Kind, Record, member_request_digest, occult_request_digest, purge_request_digest,
-    request_digest,
+    Kind, Record, clue_occult_request_digest, member_request_digest, occult_request_digest,
+    purge_request_digest, request_digest,
 };
 use ledger_bytes::{Digest, NoMemory};
 use member_book::{MemberBook, Verifier};
@@ -71,6 +71,7 @@ fn is_placed_among<V: Verifier>(
         Kind::Member => Ok(is_placed_member(verifier, id, known, journal)),
         Kind::Occult => is_placed_occult(alloc, verifier, id, known, journal),
         Kind::Purge => is_placed_purge(alloc, verifier, id, known, journal, needed, root),
+        Kind::ClueOccult => is_placed_clue_occult(alloc, verifier, id, known, journal),
     }
 }
 
@@ -136,6 +137,25 @@ fn is_placed_occult<V: Verifier>(
 {
     let header = &journal.header;
     let request = occult_request_digest(id, header.a, &header.link);
+    are_of(alloc, verifier, known, &request, &[0, 1], journal.who)
+}
+
+// Whether operator and regulator placed an occult by clue.
+fn is_placed_clue_occult<V: Verifier>(
+    alloc: Global,
+    verifier: &V,
+    id: &Digest,
+    known: &MemberBook,
+    journal: &Record,
+) -> Result<bool, NoMemory>
+    requires count { journal.now.header.a < 2 ^ 32 }
+    requires who { length journal.now.who < 2 ^ 32 }
+    ensures { IfOk result (λ good. IsTrue good ↔ AreOf (V.shows verifier.now) (keys known.now)
+        (clue_occult_request_digest_of id.now.0 journal.now.header.link.0 journal.now.header.a)
+        (0 ∷ 1 ∷ []) journal.now.who) }
+{
+    let header = &journal.header;
+    let request = clue_occult_request_digest(id, &header.link, header.a as u32);
     are_of(alloc, verifier, known, &request, &[0, 1], journal.who)
 }
 

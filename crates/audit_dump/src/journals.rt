@@ -241,7 +241,12 @@ fn tells_time(kind: Kind) -> bool
 {
     match kind {
         Kind::Time => true,
-        Kind::Genesis | Kind::Content | Kind::Member | Kind::Occult | Kind::Purge => false,
+        Kind::Genesis
+        | Kind::Content
+        | Kind::Member
+        | Kind::Occult
+        | Kind::Purge
+        | Kind::ClueOccult => false,
     }
 }
 

@@ -10,7 +10,7 @@ ghost use Rattle.pseudo_genesis.specs.declared.base.Base.{Base};
 ghost use Rattle.script_lines.specs.declared.said.SaidApproval.{SaidApproval};
 ghost use Rattle.tree_model.specs.Tree.{mth};
 ghost use Rattle.tree_model.specs.TreeClash.{ShowsOr};
-ghost use Rattle.ledger_model.specs.Appends.{append_with, member_job, occult_job, purge_job};
+ghost use Rattle.ledger_model.specs.Appends.{append_with, member_job, occult_job, clue_occult_job, purge_job};
 ghost use Rattle.ledger_model.specs.Bases.{base_of};
 ghost use Rattle.ledger_model.specs.Behind.{AreBehind};
 ghost use Rattle.ledger_model.specs.History.{History, journals, greatest_point, id};
@@ -27,7 +27,7 @@ ghost use Rattle.audit_dump.specs.Approvals.{IsPlacedBy};
 ghost use Rattle.audit_dump.specs.Audits.{TellsReport};
 ghost use Rattle.audit_dump.specs.Ending.{Given};
 ghost use Rattle.audit_dump.specs.Known.{journals_of};
-ghost use Rattle.audit_dump.specs.Placed.{shown_whole, record_placed, member_placed, occult_placed, purge_placed};
+ghost use Rattle.audit_dump.specs.Placed.{shown_whole, record_placed, member_placed, occult_placed, clue_occult_placed, purge_placed};
 ghost use Rattle.audit_dump.specs.Reading.{AreGood};
 ghost use Rattle.audit_dump.specs.Reports.{Report, IsReport};
 ghost use Rattle.audit_dump.specs.Told.{report_of};
@@ -72,6 +72,12 @@ pub fn accepted_jobs_are_placed()
         → own_refusal limits h (occult_job scheme (id h) target leaf given) ≡ None
         → IsPlacedBy scheme (id h) None (journals h)
         (shown_whole (occult_placed scheme h target leaf given)) kind.Occult }
+    ensures clue_occults { (scheme : Scheme) (limits : Limits) (h : History) (name : List ℕ)
+        (count : ℕ) (given : List SaidApproval)
+        → All (λ by. length by.proof ≤ PROOF_LIMIT) given
+        → own_refusal limits h (clue_occult_job scheme (id h) name count given) ≡ None
+        → IsPlacedBy scheme (id h) None (journals h)
+        (shown_whole (clue_occult_placed scheme h name count given)) kind.ClueOccult }
     ensures purges { (scheme : Scheme) (limits : Limits) (h : History) (p : ℕ) (told : Digest)
         (given : List SaidApproval) → All (λ by. length by.proof ≤ PROOF_LIMIT) given
         → own_refusal limits h (purge_job scheme (id h) p told given) ≡ None

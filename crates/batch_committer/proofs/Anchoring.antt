@@ -20,7 +20,7 @@ use Rattle.ledger_model.specs.Step.{Step}
 use Rattle.ledger_model.specs.Texts.{answer_for, told_reply}
 use Rattle.ledger_model.specs.declared.answer.Answer.TheVariants.{Reply}
 use Rattle.ledger_model.specs.declared.job.Job.{Job}
-use Rattle.ledger_model.specs.declared.job.Job.TheVariants.{Refused, Append, NewMember, Anchor, Occult, Purge, Get, Prove, Extend, Clue, Head}
+use Rattle.ledger_model.specs.declared.job.Job.TheVariants.{Refused, Append, NewMember, Anchor, Occult, OccultClue, Purge, Get, Prove, Extend, Clue, Head}
 use Rattle.ledger_model.specs.declared.limits.Limits.{Limits}
 use Rattle.ledger_model.specs.declared.outcome.Outcome.{Outcome}
 use Rattle.ledger_model.specs.declared.outcome.Outcome.TheVariants as came
@@ -105,6 +105,7 @@ asked_by (Append member clue content content_digest request by who number) q is 
 asked_by (NewMember number key by) q is = absurd (let no : ⊥ = cc is in no)
 asked_by Anchor q is = let e : query.Stamp ≡ q = cc is in ap job_asking e
 asked_by (Occult target leaf given) q is = absurd (let no : ⊥ = cc is in no)
+asked_by (OccultClue clue count given) q is = absurd (let no : ⊥ = cc is in no)
 asked_by (Purge p told given) q is = absurd (let no : ⊥ = cc is in no)
 asked_by (Get n) q is = let e : query.Get n ≡ q = cc is in ap job_asking e
 asked_by (Prove n) q is = let e : query.Prove n ≡ q = cc is in ap job_asking e

@@ -21,7 +21,7 @@ use Rattle.ledger_model.specs.Judgements.{own_refusal}
 use Rattle.ledger_model.specs.Limits.{real_limits}
 use Rattle.ledger_model.specs.Notary.{asks, Changes}
 use Rattle.ledger_model.specs.declared.job.Job.{Job}
-use Rattle.ledger_model.specs.declared.job.Job.TheVariants.{Refused, Append, NewMember, Anchor, Occult, Purge, Get, Prove, Extend, Clue, Head}
+use Rattle.ledger_model.specs.declared.job.Job.TheVariants.{Refused, Append, NewMember, Anchor, Occult, OccultClue, Purge, Get, Prove, Extend, Clue, Head}
 use Rattle.batch_committer.specs.Attending.{step_in, Attended, EndsAsking}
 use Rattle.batch_committer.specs.World.{CommitterState}
 
@@ -66,6 +66,7 @@ attends_other n h lane index line Anchor not_it = by_refusal (own_refusal real_l
   by_refusal None is = absurd (not_it refl is)
   by_refusal (Some refusal) is = untouched n h lane index line Anchor false (ap (λ o. is_none o && nat_lt (length n.entries) NOTARY_LIMIT) is) refl
 attends_other n h lane index line (Occult target leaf given) not_it = untouched n h lane index line (Occult target leaf given) false refl refl
+attends_other n h lane index line (OccultClue clue count given) not_it = untouched n h lane index line (OccultClue clue count given) false refl refl
 attends_other n h lane index line (Purge p told given) not_it = untouched n h lane index line (Purge p told given) false refl refl
 attends_other n h lane index line (Get m) not_it = untouched n h lane index line (Get m) false refl refl
 attends_other n h lane index line (Prove m) not_it = untouched n h lane index line (Prove m) false refl refl
@@ -80,6 +81,7 @@ untouched_by n (Append member clue content content_digest request by who number)
 untouched_by n (NewMember number key by) = inl (λ h lane index line. untouched n h lane index line (NewMember number key by) false refl refl)
 untouched_by n Anchor = inr refl
 untouched_by n (Occult target leaf given) = inl (λ h lane index line. untouched n h lane index line (Occult target leaf given) false refl refl)
+untouched_by n (OccultClue clue count given) = inl (λ h lane index line. untouched n h lane index line (OccultClue clue count given) false refl refl)
 untouched_by n (Purge p told given) = inl (λ h lane index line. untouched n h lane index line (Purge p told given) false refl refl)
 untouched_by n (Get m) = inl (λ h lane index line. untouched n h lane index line (Get m) false refl refl)
 untouched_by n (Prove m) = inl (λ h lane index line. untouched n h lane index line (Prove m) false refl refl)

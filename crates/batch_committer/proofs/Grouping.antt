@@ -12,19 +12,19 @@ use Rattle.journal_record.specs.Blocks.{block_bytes, leaves_of, written_blocks, 
 use Rattle.journal_record.specs.Entry.{Entry}
 use Rattle.journal_record.specs.Header.{spelling}
 use Rattle.journal_record.specs.declared.header.Kind.{Kind}
-use Rattle.journal_record.specs.declared.header.Kind.TheVariants.{Genesis, Content, Member, Time, Occult, Purge}
+use Rattle.journal_record.specs.declared.header.Kind.TheVariants.{Genesis, Content, Member, Time, Occult, Purge, ClueOccult}
 use Rattle.block_file.specs.File.{IsFileOf, whole_file}
 use Rattle.ledger_model.specs.History.{History, history, journals, journals_of, size, point, greatest_point, is_purge}
 use Rattle.ledger_model.specs.Lawful.{AreNext, AllGather, gathers}
-use Rattle.ledger_model.specs.Targets.{hides, is_hidden, is_hidden_by, is_occult}
+use Rattle.ledger_model.specs.Targets.{hides, is_hidden, is_hidden_by}
 use Rattle.ledger_model.proofs.BaseLaws.{front_next, more_journals}
-use Rattle.ledger_model.proofs.HideLaws.{named_before}
+use Rattle.ledger_model.proofs.HideLaws.{gathered_show}
 use Rattle.ledger_model.proofs.LawfulLaws.{hide_none, lawful_from, some_journal, two_points}
 use Rattle.ledger_open.specs.Growing.{with_block, IsNextBlock}
 use Rattle.ledger_open.specs.Standing.{Floor, floor_behind, HasBlocks, AllKept, SameButHidden, StandsBy, IsErased}
 use Rattle.ledger_open.proofs.FloorLaws.{floor_first, floor_kept, floor_root}
 use Rattle.ledger_open.proofs.GrowLaws.{grown, blocks_more, written_more}
-use Rattle.ledger_open.proofs.HidingLaws.{hidden_among, hidden_push, journals_closed}
+use Rattle.ledger_open.proofs.HidingLaws.{none_hides, hidden_among, hidden_push, journals_closed}
 use Rattle.ledger_open.proofs.KeptLaws.{all_kept, header_map_same, same_more, same_weaker}
 use Rattle.ledger_open.proofs.LikeLaws.{count_kept}
 use Rattle.ledger_open.proofs.PartLaws.{size_parts}
@@ -45,27 +45,21 @@ gather_join (x ∷ xs) ys a b =
     let both = and_parts (gathers x.header.kind) (list_all (λ (e : Entry). gathers e.header.kind) xs) a in
     ap (λ (v : Bool). v && list_all (λ (e : Entry). gathers e.header.kind) (xs ++ ys)) both.0 ∙ gather_join xs ys both.1 b
 
-plain_kind : (k : Kind) → gathers k ≡ true → (is_occult k ≡ false) × (is_purge k ≡ false)
-plain_kind Genesis g = (refl, refl)
-plain_kind Content g = (refl, refl)
-plain_kind Member g = (refl, refl)
-plain_kind Time g = (refl, refl)
-plain_kind Occult g = absurd (let no : ⊥ = cc g in no)
+plain_kind : (k : Kind) → gathers k ≡ true → is_purge k ≡ false
+plain_kind Genesis g = refl
+plain_kind Content g = refl
+plain_kind Member g = refl
+plain_kind Time g = refl
+plain_kind Occult g = refl
 plain_kind Purge g = absurd (let no : ⊥ = cc g in no)
+plain_kind ClueOccult g = refl
 
--- they hide nothing
-shows_all : (target : Entry) (es : List Entry) → AllGather es → list_any (hides target) es ≡ false
-shows_all target [] g = refl
-shows_all target (e ∷ es) g =
-    let both = and_parts (gathers e.header.kind) (list_all (λ (x : Entry). gathers x.header.kind) es) g in
-    ap (λ (v : Bool). (v && (e.header.a == target.header.jsn)) || list_any (hides target) es) (plain_kind e.header.kind both.0).0 ∙ shows_all target es both.1
-
--- and purge nothing
+-- they purge nothing
 no_points : (es : List Entry) → AllGather es → greatest_point es ≡ 0
 no_points [] g = refl
 no_points (e ∷ es) g =
     let both = and_parts (gathers e.header.kind) (list_all (λ (x : Entry). gathers x.header.kind) es) g in
-    let here : cond (is_purge e.header.kind) e.header.a 0 ≡ 0 = ap (λ (v : Bool). cond v e.header.a 0) (plain_kind e.header.kind both.0).1 in
+    let here : cond (is_purge e.header.kind) e.header.a 0 ≡ 0 = ap (λ (v : Bool). cond v e.header.a 0) (plain_kind e.header.kind both.0) in
     omega (arith, two_points (e ∷ []) es, ap (λ n. max 0 n) here, no_points es both.1)
 
 pub same_point : (js es : List Entry) → AllGather es → greatest_point (js ++ es) ≡ greatest_point js
@@ -116,14 +110,14 @@ module _ (image : List ℕ) (h : History) (b : List Entry) (x : IsErased image h
   from = floor_behind h x.parts.gone
 
   none_later : (t : Entry) → size h ≤ t.header.jsn → list_any (hides t) (journals_of h.closed) ≡ false
-  none_later t le = ap (list_any (hides t)) (sym (journals_closed h x.none)) ∙ named_before 0 t.header.jsn (journals h) (lawful_from (journals h) x.lawful.journals_are) (omega (arith, le))
+  none_later t le = ap (list_any (hides t)) (sym (journals_closed h x.none)) ∙ none_hides t 0 (journals h) (lawful_from (journals h) x.lawful.journals_are) (omega (arith, le))
 
   -- what is hidden was hidden before
   hidden_same : (m : ℕ) → is_hidden more m ≡ is_hidden h m
   hidden_same m =
       let target = slice_get (journals_of h.closed ++ b) m in
       let front = is_hidden_by (journals_of h.closed) target in
-      hidden_push h.closed b m ∙ ap (λ (v : Bool). front || v) (hide_none b target (λ t. shows_all t b g)) ∙ or_false front
+      hidden_push h.closed b m ∙ ap (λ (v : Bool). front || v) (hide_none b target (λ t. gathered_show t b g)) ∙ or_false front
       ∙ hidden_among (journals_of h.closed) (size h) none_later m (journals_of h.closed) b n.entries.entries
       ∙ ap (λ (l : List Entry). is_hidden_by l (slice_get l m)) (sym (journals_closed h x.none)) where
         or_false : (v : Bool) → (v || false) ≡ v

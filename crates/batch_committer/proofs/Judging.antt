@@ -18,7 +18,7 @@ use Rattle.journal_record.specs.declared.approval.TheConstants.{WHO_LIMIT}
 use Rattle.journal_record.specs.declared.header.TheConstants.{HEADER_LEN}
 use Rattle.journal_record.specs.declared.stamp.Stamp.{Stamp}
 use Rattle.ledger_model.specs.Anchors.{stamp_of, time_header, time_journal}
-use Rattle.ledger_model.specs.Appends.{append_journal, member_journal, occult_journal, purge_journal, append_header, member_header, occult_header, purge_header}
+use Rattle.ledger_model.specs.Appends.{append_journal, member_journal, occult_journal, clue_occult_journal, purge_journal, append_header, member_header, occult_header, clue_occult_header, purge_header}
 use Rattle.ledger_model.specs.Fitting.{fits_approval, fits_job}
 use Rattle.ledger_model.specs.History.{History, history, journals, journals_of, size}
 use Rattle.ledger_model.specs.Judgements.{own_refusal}
@@ -32,7 +32,7 @@ use Rattle.ledger_model.specs.Texts.{answer_for}
 use Rattle.ledger_model.specs.declared.answer.Answer.{Answer}
 use Rattle.ledger_model.specs.declared.due.Due.{Due}
 use Rattle.ledger_model.specs.declared.job.Job.{Job}
-use Rattle.ledger_model.specs.declared.job.Job.TheVariants.{Refused, Append, NewMember, Anchor, Occult, Purge, Get, Prove, Extend, Clue, Head}
+use Rattle.ledger_model.specs.declared.job.Job.TheVariants.{Refused, Append, NewMember, Anchor, Occult, OccultClue, Purge, Get, Prove, Extend, Clue, Head}
 use Rattle.ledger_model.specs.declared.limits.Limits.{Limits}
 use Rattle.ledger_model.specs.declared.outcome.Outcome.{Outcome}
 use Rattle.ledger_model.specs.declared.outcome.Outcome.TheVariants as came
@@ -70,6 +70,7 @@ judged_same stamp h (NewMember number key by) None o none is = absurd (subst Pla
 judged_same None h Anchor None o none is = refl
 judged_same (Some stamp) h Anchor None o none is = absurd (subst PlacesNothing is none)
 judged_same stamp h (Occult target leaf given) None o none is = absurd (subst PlacesNothing is none)
+judged_same stamp h (OccultClue clue count given) None o none is = absurd (subst PlacesNothing is none)
 judged_same stamp h (Purge p told given) None o none is = absurd (subst PlacesNothing is none)
 judged_same stamp h (Get n) None o none is = refl
 judged_same stamp h (Prove n) None o none is = refl
@@ -115,6 +116,8 @@ judged_as None h Anchor None placed is = absurd (let no : ⊥ = cc is in no)
 judged_as (Some stamp) h Anchor None placed is = let j = time_journal (size h) stamp in record { accepted = refl; journal = j; header_is = placed_header placed (size h) j is; placed_is = refl }
 judged_as stamp h (Occult target named given) None placed is =
     let j = occult_journal (size h) target named given in record { accepted = refl; journal = j; header_is = placed_header placed (size h) j is; placed_is = refl }
+judged_as stamp h (OccultClue clue count given) None placed is =
+    let j = clue_occult_journal (size h) clue count given in record { accepted = refl; journal = j; header_is = placed_header placed (size h) j is; placed_is = refl }
 judged_as stamp h (Purge p told given) None placed is = let j = purge_journal h p given in record { accepted = refl; journal = j; header_is = placed_header placed (size h) j is; placed_is = refl }
 judged_as stamp h (Get n) None placed is = absurd (let no : ⊥ = cc is in no)
 judged_as stamp h (Prove n) None placed is = absurd (let no : ⊥ = cc is in no)
@@ -153,11 +156,13 @@ whos_few given fits =
     let both = and_parts (nat_le (length given) APPROVAL_LIMIT) (list_all (λ (a : Approval). nat_le (length a.proof) PROOF_LIMIT) given) fits in
     omega (arith, leb-true (length given) APPROVAL_LIMIT both.0, whos_length given both.1)
 
--- the parts of an occult and of a purge
-pub given_parts : (job : Job) (content : List ℕ) (given approvals : List Approval) → ((target : ℕ) × (leaf : Digest) × (job ≡ Occult target leaf approvals)) ⊎ ((p : ℕ) × (told : Digest) × (job ≡ Purge p told approvals)) → HasParts job content given
+-- the parts of an occult of either kind and of a purge
+pub given_parts : (job : Job) (content : List ℕ) (given approvals : List Approval)
+    → ((target : ℕ) × (leaf : Digest) × (job ≡ Occult target leaf approvals)) ⊎ ((clue : Digest) × (count : ℕ) × (job ≡ OccultClue clue count approvals)) ⊎ ((p : ℕ) × (told : Digest) × (job ≡ Purge p told approvals)) → HasParts job content given
     → (content ≡ []) × (given ≡ approvals)
 given_parts job content given approvals (inl x) parts = subst (λ (j : Job). HasParts j content given) x.2 parts
-given_parts job content given approvals (inr x) parts = subst (λ (j : Job). HasParts j content given) x.2 parts
+given_parts job content given approvals (inr (inl x)) parts = subst (λ (j : Job). HasParts j content given) x.2 parts
+given_parts job content given approvals (inr (inr x)) parts = subst (λ (j : Job). HasParts j content given) x.2 parts
 
 -- its parts
 pub record IsMade (job : Job) (journal : Entry) : Type 0 where
@@ -178,7 +183,7 @@ record_is None got journal is = cc is
 record_is (Some n) got journal is = absurd (none-some journal is)
 
 pub is_made : (stamp : Option Stamp) (h : History) (job : Job) (journal : Entry) → fits_job job ≡ true → placed_journal h stamp job ≡ Some journal → IsMade job journal
-unfolding append_header member_header time_header occult_header purge_header
+unfolding append_header member_header time_header occult_header clue_occult_header purge_header
 is_made stamp h (Refused why) journal fits is = absurd (none-some journal is)
 is_made stamp h (Append member clue content content_digest request by who number) journal fits is =
     made_as (Append member clue content content_digest request by who number) (append_journal h member clue content content_digest request by who number) journal
@@ -193,6 +198,9 @@ is_made (Some s) h Anchor journal fits is =
     (record { content = []; given = []; parts = (refl, refl); content_is = refl; who_is = refl; len = refl; few = omega arith; gathers_is = λ other. absurd (true≢false other) })
 is_made stamp h (Occult target leaf given) journal fits is =
     made_as (Occult target leaf given) (occult_journal (size h) target leaf given) journal (cc is)
+    (record { content = []; given = given; parts = (refl, refl); content_is = refl; who_is = refl; len = refl; few = whos_few given fits; gathers_is = λ other. absurd (true≢false other) })
+is_made stamp h (OccultClue clue count given) journal fits is =
+    made_as (OccultClue clue count given) (clue_occult_journal (size h) clue count given) journal (cc is)
     (record { content = []; given = given; parts = (refl, refl); content_is = refl; who_is = refl; len = refl; few = whos_few given fits; gathers_is = λ other. absurd (true≢false other) })
 is_made stamp h (Purge p told given) journal fits is =
     made_as (Purge p told given) (purge_journal h p given) journal (cc is)
@@ -364,6 +372,7 @@ asks_closes (Append member clue content content_digest request by who number) q 
 asks_closes (NewMember number key by) q is = absurd (let no : ⊥ = cc is in no)
 asks_closes Anchor q is = refl
 asks_closes (Occult target leaf given) q is = absurd (let no : ⊥ = cc is in no)
+asks_closes (OccultClue clue count given) q is = absurd (let no : ⊥ = cc is in no)
 asks_closes (Purge p told given) q is = absurd (let no : ⊥ = cc is in no)
 asks_closes (Get n) q is = refl
 asks_closes (Prove n) q is = refl
@@ -378,6 +387,7 @@ alone_first (Append member clue content content_digest request by who number) al
 alone_first (NewMember number key by) alone = absurd (true≢false (sym alone))
 alone_first Anchor alone = refl
 alone_first (Occult target leaf given) alone = refl
+alone_first (OccultClue clue count given) alone = refl
 alone_first (Purge p told given) alone = refl
 alone_first (Get n) alone = refl
 alone_first (Prove n) alone = refl

@@ -19,7 +19,7 @@ use Rattle.ledger_model.specs.Texts.{answer_for}
 use Rattle.ledger_model.specs.declared.answer.Answer.{Answer}
 use Rattle.ledger_model.specs.declared.due.Due.{Due}
 use Rattle.ledger_model.specs.declared.job.Job.{Job}
-use Rattle.ledger_model.specs.declared.job.Job.TheVariants.{Append, NewMember, Anchor, Occult, Purge}
+use Rattle.ledger_model.specs.declared.job.Job.TheVariants.{Append, NewMember, Anchor, Occult, OccultClue, Purge}
 use Rattle.ledger_book.specs.Books.{Kept, Serves, sealed_size}
 use Rattle.ledger_book.specs.Steps.{OpenGathers}
 use Rattle.script_lines.specs.BlockEnds.{BlockEnd, block_end}
@@ -58,6 +58,7 @@ HasParts (Append member clue record_content content_digest request by who number
 HasParts (NewMember number key by) content given = (content ≡ []) × (given ≡ by ∷ [])
 HasParts Anchor content given = (content ≡ []) × (given ≡ [])
 HasParts (Occult target leaf approvals) content given = (content ≡ []) × (given ≡ approvals)
+HasParts (OccultClue clue count approvals) content given = (content ≡ []) × (given ≡ approvals)
 HasParts (Purge p told approvals) content given = (content ≡ []) × (given ≡ approvals)
 HasParts other content given = ⊥
 

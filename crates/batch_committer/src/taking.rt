@@ -649,9 +649,8 @@ impl Taking {
                 self.gather(header, content.as_slice(), slice::from_ref(by))
             }
             Job::NewMember { by, .. } => self.gather(header, &[], slice::from_ref(by)),
-            Job::Occult { given, .. } | Job::Purge { given, .. } => {
-                self.gather(header, &[], given.as_slice())
-            }
+            Job::Occult { given, .. } | Job::OccultClue { given, .. } | Job::Purge { given, .. } =>
+                { self.gather(header, &[], given.as_slice()) }
             Job::Anchor => self.gather(header, &[], &[]),
             Job::Refused(_)
             | Job::Get { .. }

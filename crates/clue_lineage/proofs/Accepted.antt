@@ -9,7 +9,7 @@ use Rattle.ledger_bytes.specs.declared.failure.Bad.{Bad}
 use Rattle.ledger_bytes.specs.Fields.{IsBytes}
 use Rattle.journal_record.specs.declared.header.Header.{Header}
 use Rattle.journal_record.specs.declared.header.Kind.{Kind}
-use Rattle.journal_record.specs.declared.header.Kind.TheVariants.{Genesis, Content, Member, Time, Occult, Purge}
+use Rattle.journal_record.specs.declared.header.Kind.TheVariants.{Genesis, Content, Member, Time, Occult, Purge, ClueOccult}
 use Rattle.journal_record.specs.Rules.{is_no_clue}
 use Rattle.tree_model.specs.Tree.{Hash}
 use Rattle.merkle_tree.specs.declared.head.Head.{Head}
@@ -45,6 +45,7 @@ record_kind Member e = absurd cc
 record_kind Time e = absurd cc
 record_kind Occult e = absurd cc
 record_kind Purge e = absurd cc
+record_kind ClueOccult e = absurd cc
 
 pub record_means : (clue : Digest) (item : Item) → is_record_of clue item.header ≡ true → IsRecordOf clue item
 record_means clue item e =

@@ -113,6 +113,7 @@ clued_is_record kind.Member clue has ok = absurd (true≢false (sym ok ∙ has))
 clued_is_record kind.Time clue has ok = absurd (true≢false (sym ok ∙ has))
 clued_is_record kind.Occult clue has ok = absurd (true≢false (sym ok ∙ has))
 clued_is_record kind.Purge clue has ok = absurd (true≢false (sym ok ∙ has))
+clued_is_record kind.ClueOccult clue has ok = absurd (true≢false (sym ok ∙ has))
 
 -- the numbers of a record that has a clue
 pub record_numbers : (before : List Entry) (x : Header) (k : Kind) → x.kind ≡ k → is_no_clue x.clue ≡ false → IsTrue (clue_ok k x.clue) → IsNextOf (history [] before) x k
@@ -125,6 +126,7 @@ record_numbers before x kind.Member is has ok own = absurd (true≢false (sym ok
 record_numbers before x kind.Time is has ok own = absurd (true≢false (sym ok ∙ has))
 record_numbers before x kind.Occult is has ok own = absurd (true≢false (sym ok ∙ has))
 record_numbers before x kind.Purge is has ok own = absurd (true≢false (sym ok ∙ has))
+record_numbers before x kind.ClueOccult is has ok own = absurd (true≢false (sym ok ∙ has))
 
 -- a record lies behind the one that it names
 above_previous : (jsn ordinal previous : ℕ) → IsTrue (clue_prev_ok jsn ordinal previous) → previous ≤ jsn

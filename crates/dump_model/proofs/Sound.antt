@@ -7,6 +7,7 @@ use Rattle.std.proofs.lemmas.List.Elements.{All-nil, All-map}
 use Rattle.std.proofs.lemmas.List.Folds.{Any-from_list_any, list_any-from_Any}
 use Rattle.journal_record.specs.Header.{spelling}
 use Rattle.journal_record.specs.Items.{Item}
+use Rattle.journal_record.specs.declared.header.Header.{Header}
 use Rattle.merkle_tree.specs.declared.head.Head.{Head}
 use Rattle.pseudo_genesis.specs.Bases.{IsBase, HasWidths}
 use Rattle.pseudo_genesis.specs.declared.base.Base.{Base}
@@ -28,19 +29,19 @@ some_other P Q items each (place, item, below, is, so) = (place, item, below, is
 
 module _ (headers : List (List ℕ)) (dump : Dump) (fits : IsDump dump) (are : leaves_of dump ≡ drop (first_of dump.base) headers) where
   -- what hides a content in the dump hides it in the ledger
-  hidden_is : (item : Item) → is_hidden dump.items item ≡ true → HasJournal headers (first_of dump.base) (IsOccultOf item.header.jsn)
+  hidden_is : (item : Item) → is_hidden dump.items item ≡ true → HasJournal headers (first_of dump.base) (IsOccultOf item.header)
   hidden_is item is =
-      let n : ℕ = item.header.jsn in
-      in_ledger headers (first_of dump.base) dump.items fits.items are (IsOccultOf n)
-      (some_other (λ x. hides n x ≡ true) (λ x. IsOccultOf n x.header) dump.items (hides_is n) (Any-from_list_any (hides n) dump.items is))
+      let target : Header = item.header in
+      in_ledger headers (first_of dump.base) dump.items fits.items are (IsOccultOf target)
+      (some_other (λ x. hides target x ≡ true) (λ x. IsOccultOf target x.header) dump.items (hides_is target) (Any-from_list_any (hides target) dump.items is))
 
-  is_hidden_by : (item : Item) → HasJournal headers (first_of dump.base) (IsOccultOf item.header.jsn) → is_hidden dump.items item ≡ true
+  is_hidden_by : (item : Item) → HasJournal headers (first_of dump.base) (IsOccultOf item.header) → is_hidden dump.items item ≡ true
   is_hidden_by item journal =
-      let n : ℕ = item.header.jsn in
-      list_any-from_Any (hides n) dump.items
-      (some_other (λ x. IsOccultOf n x.header) (λ x. hides n x ≡ true) dump.items (is_hides n) (in_dump headers (first_of dump.base) dump.items fits.items are (IsOccultOf n) journal))
+      let target : Header = item.header in
+      list_any-from_Any (hides target) dump.items
+      (some_other (λ x. IsOccultOf target x.header) (λ x. hides target x ≡ true) dump.items (is_hides target) (in_dump headers (first_of dump.base) dump.items fits.items are (IsOccultOf target) journal))
 
-  pub erased_is : ErasedAreHidden dump → All (λ item. (item.body ≡ None) ↔ HasJournal headers (first_of dump.base) (IsOccultOf item.header.jsn)) dump.items
+  pub erased_is : ErasedAreHidden dump → All (λ item. (item.body ≡ None) ↔ HasJournal headers (first_of dump.base) (IsOccultOf item.header)) dump.items
   erased_is checked place other below =
       let item : Item = get_or dump.items place other in
       let same : is_none item.body ≡ is_hidden dump.items item = checked place other below in (
@@ -48,7 +49,7 @@ module _ (headers : List (List ℕ)) (dump : Dump) (fits : IsDump dump) (are : l
         λ journal. none_is item.body (same ∙ is_hidden_by item journal),
       )
 
-  pub is_erased_so : All (λ item. (item.body ≡ None) ↔ HasJournal headers (first_of dump.base) (IsOccultOf item.header.jsn)) dump.items → ErasedAreHidden dump
+  pub is_erased_so : All (λ item. (item.body ≡ None) ↔ HasJournal headers (first_of dump.base) (IsOccultOf item.header)) dump.items → ErasedAreHidden dump
   is_erased_so so place other below =
       let item : Item = get_or dump.items place other in
       let both = so place other below in

@@ -4,8 +4,9 @@ use Rattle.std.specs.List.{list_any}
 use Rattle.ledger_bytes.specs.Tags.{byte_of}
 use Rattle.ledger_bytes.specs.declared.tag.Tag.TheVariants as tag
 use Rattle.journal_record.specs.Items.{Item}
+use Rattle.journal_record.specs.declared.header.Header.{Header}
 pub use Rattle.ledger_model.specs.History.{is_purge}
-pub use Rattle.ledger_model.specs.Targets.{is_occult}
+pub use Rattle.ledger_model.specs.Targets.{is_occult, hides_as}
 use Rattle.merkle_tree.specs.declared.head.Head.{Head}
 use Rattle.pseudo_genesis.specs.Bases.{base_spelling}
 use Rattle.pseudo_genesis.specs.declared.base.Base.{Base}
@@ -14,13 +15,13 @@ use Rattle.dump_model.specs.Dumps.{Dump, first_of, root_of}
 
 -- ---- what was erased
 
--- whether a journal hides the content of the one with this number
-abbrev pub hides : ℕ → Item → Bool
-hides n item = is_occult item.header.kind && item.header.a == n
+-- whether a journal hides the content of the one with this header
+abbrev pub hides : Header → Item → Bool
+hides target item = hides_as item.header.kind item.header target
 
 -- whether one of some journals hides the content of a journal
 abbrev pub is_hidden : List Item → Item → Bool
-is_hidden items target = list_any (hides target.header.jsn) items
+is_hidden items target = list_any (hides target.header) items
 
 -- whether the content of a journal isn't there
 abbrev pub is_erased : Item → Bool
@@ -28,7 +29,8 @@ is_erased item = is_none item.body
 
 -- A content is missing exactly where a journal of the dump hides it: none is left out without one, and none is shown that was to be
 -- erased.
--- Example: record 5 without its content is in order where journal 9 is an occult of 5, and record 5 with its content isn't.
+-- Example: record 5 without its content is in order where journal 9 is an occult of 5, or one by the clue of record 5, and record 5
+-- with its content isn't.
 abbrev pub ErasedAreHidden : Dump → Type 0
 ErasedAreHidden dump = All (λ item. is_erased item ≡ is_hidden dump.items item) dump.items
 

@@ -1,5 +1,5 @@
 -- When a dump is true of a ledger and a notary's list, and the two strings that it shows where it isn't.
-use Rattle.std.specs.Prelude.{◌≡◌, ℕ, ◌<◌, ◌≤◌, ◌↔◌, List, [], length, map, take, drop, get_or, All, Option, None, IfSome}
+use Rattle.std.specs.Prelude.{◌≡◌, ◌⊎◌, ℕ, ◌<◌, ◌≤◌, ◌↔◌, List, [], length, map, take, drop, get_or, All, Option, None, IfSome}
 use Rattle.std.specs.Option.{option_or}
 use Rattle.journal_record.specs.Header.{spelling, HasWidths}
 use Rattle.journal_record.specs.Rules.{IsHeader}
@@ -24,9 +24,16 @@ pub record HasJournal (headers : List (List ℕ)) (first : ℕ) (IsSo : Header �
   pub widths : HasWidths header
   pub so : IsSo header
 
--- a header is that of an occult, which hides the content of the journal with this number
-abbrev pub IsOccultOf : ℕ → Header → Type 0
-IsOccultOf n header = (header.kind ≡ kind.Occult) × (header.a ≡ n)
+-- a header is that of an occult by the clue of the record with that other header, which stands in front of it
+pub record IsClueOccultOf (target header : Header) : Type 0 where
+  pub kind_is : header.kind ≡ kind.ClueOccult
+  pub target_is : target.kind ≡ kind.Content
+  pub before : target.jsn < header.jsn
+  pub clue_is : header.link.0 ≡ target.clue.0
+
+-- a header is that of an occult that hides the content of the journal with that other header: it names its number, or its clue
+abbrev pub IsOccultOf : Header → Header → Type 0
+IsOccultOf target header = ((header.kind ≡ kind.Occult) × (header.a ≡ target.jsn)) ⊎ IsClueOccultOf target header
 
 -- a header is that of the purge that made a base: it names the base's point and links the base's digest
 abbrev pub IsPurgeOf : Hash → Base → Header → Type 0
@@ -45,7 +52,7 @@ pub record IsTrueDump (hash : Hash) (headers entries : List (List ℕ)) (dump : 
   pub entries_are : dump.entries ≡ entries
   pub notary_root_is : dump.notary_root.0 ≡ mth hash entries
   -- a content is missing exactly where a journal of the ledger, from the dump's first on, hides it
-  pub erased : All (λ item. (item.body ≡ None) ↔ HasJournal headers (first_of dump.base) (IsOccultOf item.header.jsn)) dump.items
+  pub erased : All (λ item. (item.body ≡ None) ↔ HasJournal headers (first_of dump.base) (IsOccultOf item.header)) dump.items
   -- where journals were given up, a journal of the ledger is the purge that made the base
   pub purged : IfSome dump.base (λ base. HasJournal headers (first_of dump.base) (IsPurgeOf hash base))
 

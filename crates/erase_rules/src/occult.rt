@@ -10,8 +10,8 @@ use journal_record::{Approval, Kind};
 use ledger_bytes::{Digest, Refusal};
 use member_book::MemberBook;
 
-/// The members whose approval an occult needs: the operator and the regulator.
-const APPROVERS: [u32; 2] = [0, 1];
+/// The members whose approval an occult of either kind needs: the operator and the regulator.
+pub(crate) const APPROVERS: [u32; 2] = [0, 1];
 
 /// What is known of the journal whose content is to be hidden. The last three are looked at only where the journal is
 /// there and wasn't purged.

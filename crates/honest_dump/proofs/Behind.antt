@@ -15,7 +15,7 @@ use Rattle.ledger_bytes.specs.declared.refusal.Refusal.TheVariants.{MissingAppro
 use Rattle.journal_record.specs.Entry.{Entry}
 use Rattle.journal_record.specs.Items.{Item}
 use Rattle.journal_record.specs.Members as book
-use Rattle.journal_record.specs.Request.{member_request_digest_of, occult_request_digest_of, purge_request_digest_of}
+use Rattle.journal_record.specs.Request.{member_request_digest_of, occult_request_digest_of, clue_occult_request_digest_of, purge_request_digest_of}
 use Rattle.journal_record.specs.declared.approval.Approval.{Approval}
 use Rattle.journal_record.specs.declared.header.Kind.{Kind}
 use Rattle.journal_record.specs.declared.header.Kind.TheVariants as kind
@@ -223,6 +223,8 @@ module _ (h : History) (m : IsMade h) where
     placed_by kind.Time same placed = placed
     placed_by kind.Occult same placed =
         subst (λ (known : List (List ℕ)). AreOf scheme known (occult_request_digest_of (id h) e.header.a e.header.link.0) (0 ∷ 1 ∷ []) e.who) known_same placed
+    placed_by kind.ClueOccult same placed =
+        subst (λ (known : List (List ℕ)). AreOf scheme known (clue_occult_request_digest_of (id h) e.header.link.0 e.header.a) (0 ∷ 1 ∷ []) e.who) known_same placed
     placed_by kind.Purge same placed = purge_behind same placed
 
 pub placed_behind : (scheme : Scheme) (h : History) (r : IsOfRuns scheme h) (front : List Entry) (e : Entry) (more : List Entry) → drop (point h) (journals h) ≡ front ++ e ∷ more

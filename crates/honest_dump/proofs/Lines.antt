@@ -12,11 +12,11 @@ use Rattle.ledger_bytes.specs.declared.digest.Digest.{Digest}
 use Rattle.ledger_bytes.specs.declared.limits.TheConstants.{CONTENT_LIMIT, PROOF_LIMIT}
 use Rattle.ledger_bytes.specs.declared.refusal.Refusal.{Refusal}
 use Rattle.script_lines.specs.Fields.{UnreadFields, fields_of, read_or_bad, field_from, field_at, optional_from, optional_at, end_from, end_at}
-use Rattle.script_lines.specs.Grammar.{◌>>=◌, append_at, member_at, anchor_at, occult_at, purge_at, get_at, prove_at, extend_at, clue_at, head_at, verb_at, asked_by, lane_of, spoken_by, spoken_at, spoken_line}
-use Rattle.script_lines.specs.Spellings.{text_of, number_of, request_number_of, bytes_of, digest_of, clue_of, which_of, approvals_of}
+use Rattle.script_lines.specs.Grammar.{◌>>=◌, append_at, member_at, anchor_at, occult_at, clue_occult_at, purge_at, get_at, prove_at, extend_at, clue_at, head_at, verb_at, asked_by, lane_of, spoken_by, spoken_at, spoken_line}
+use Rattle.script_lines.specs.Spellings.{text_of, number_of, request_number_of, bytes_of, digest_of, clue_of, count_of, which_of, approvals_of}
 use Rattle.script_lines.specs.declared.line.Line.{Line}
 use Rattle.script_lines.proofs.Approving.{request_number_low}
-use Rattle.script_lines.specs.declared.line.Line.TheVariants.{Append, NewMember, Anchor, Occult, Purge, Get, Prove, Extend, Clue, Head}
+use Rattle.script_lines.specs.declared.line.Line.TheVariants.{Append, NewMember, Anchor, Occult, OccultClue, Purge, Get, Prove, Extend, Clue, Head}
 
 -- what a line gives of its journal's header fits its field
 abbrev pub LineFits : Line → Type 0
@@ -24,6 +24,7 @@ LineFits (NewMember number key proof) = length key.0 ≡ 32
 LineFits (Append member clue content proof number) = number < 2 ^ 64
 LineFits Anchor = ⊤
 LineFits (Occult target leaf given) = ⊤
+LineFits (OccultClue name count given) = ⊤
 LineFits (Purge point root given) = ⊤
 LineFits (Get n) = ⊤
 LineFits (Prove n) = ⊤
@@ -119,6 +120,14 @@ occult_has fields =
     then_has Any _ _ (any_field approvals_of leaf.1) (λ given g.
     end_has given.1 (Occult target.0 leaf.0 given.0) tt)))
 
+clue_occult_has : (fields : UnreadFields) → WhatFits (clue_occult_at fields)
+unfolding clue_occult_at
+clue_occult_has fields =
+    then_has Any _ _ (any_field clue_of fields) (λ name n.
+    then_has Any _ _ (any_field count_of name.1) (λ count c.
+    then_has Any _ _ (any_field approvals_of count.1) (λ given g.
+    end_has given.1 (OccultClue name.0 count.0 given.0) tt)))
+
 purge_has : (fields : UnreadFields) → WhatFits (purge_at fields)
 unfolding purge_at
 purge_has fields =
@@ -160,12 +169,13 @@ verb_has verb fields =
     (either_has (bytes_eq verb (codes "member")) _ _ (member_has fields)
     (either_has (bytes_eq verb (codes "anchor")) _ _ (anchor_has fields)
     (either_has (bytes_eq verb (codes "occult")) _ _ (occult_has fields)
+    (either_has (bytes_eq verb (codes "occultclue")) _ _ (clue_occult_has fields)
     (either_has (bytes_eq verb (codes "purge")) _ _ (purge_has fields)
     (either_has (bytes_eq verb (codes "get")) _ _ (get_has fields)
     (either_has (bytes_eq verb (codes "prove")) _ _ (prove_has fields)
     (either_has (bytes_eq verb (codes "extend")) _ _ (extend_has fields)
     (either_has (bytes_eq verb (codes "clue")) _ _ (clue_has fields)
-    (either_has (bytes_eq verb (codes "head")) _ _ (head_has fields) tt)))))))))
+    (either_has (bytes_eq verb (codes "head")) _ _ (head_has fields) tt))))))))))
 
 asked_has : (verb : Result (List ℕ × UnreadFields) Refusal) → WhatFits (asked_by verb)
 asked_has (Ok verb) = verb_has verb.0 verb.1

@@ -26,7 +26,7 @@ use Rattle.script_lines.specs.declared.said.SaidApproval.{SaidApproval}
 use Rattle.time_peg.specs.Entries.{Making}
 use Rattle.journal_record.specs.Request.{purge_request_digest_of}
 use Rattle.ledger_model.specs.Anchors.{stamp_of, time_header, time_journal}
-use Rattle.ledger_model.specs.Appends.{approval_of, append_header, append_with, member_header, member_job, occult_header, occult_job, purge_header, purge_job}
+use Rattle.ledger_model.specs.Appends.{approval_of, append_header, append_with, member_header, member_job, occult_header, occult_job, clue_occult_header, clue_occult_job, purge_header, purge_job}
 use Rattle.ledger_model.specs.Bases.{base_of, clues_added, digest_of_base}
 use Rattle.ledger_model.specs.Ends.{ends_from}
 use Rattle.ledger_model.specs.Genesis.{genesis_header, new_ledger}
@@ -143,7 +143,7 @@ links_first n h left lawful none all =
 
 module _ (scheme : Scheme) where
   line_links : (h : History) (making : Option Making) (step : Step) (what : Result Line Refusal) (e : Entry) → Places scheme h making step what e → Links h e
-  unfolding append_with append_header member_job member_header occult_job occult_header purge_job purge_header time_header
+  unfolding append_with append_header member_job member_header occult_job occult_header clue_occult_job clue_occult_header purge_job purge_header time_header
   line_links h making step (Err refusal) e p = let never = p.placed in absurd cc
   line_links h making step (Ok (line.Append member clue content proof number)) e p = subst (Links h) (unrepeated _ _ e p.placed).1 (λ purge. absurd cc)
   line_links h making step (Ok (line.NewMember number key proof)) e p = subst (Links h) (same_Some _ e p.placed) (λ purge. absurd cc)
@@ -152,6 +152,7 @@ module _ (scheme : Scheme) where
     by_stamp None placed = absurd cc
     by_stamp (Some s) placed = subst (Links h) (same_Some _ e placed) (λ purge. absurd cc)
   line_links h making step (Ok (line.Occult target leaf given)) e p = subst (Links h) (same_Some _ e p.placed) (λ purge. absurd cc)
+  line_links h making step (Ok (line.OccultClue name count given)) e p = subst (Links h) (same_Some _ e p.placed) (λ purge. absurd cc)
   line_links h making step (Ok (line.Purge q told given)) e p =
       let message = purge_request_digest_of (id h) q told.0 in
       let own = purge_own real_limits real_within h q told (map (λ (by : SaidApproval). approval_of scheme by.member message by.proof) given) p.accepted told p.lawful.journals_are in
@@ -185,6 +186,7 @@ purge_of kind.Content a n is = absurd (omega (arith, is))
 purge_of kind.Member a n is = absurd (omega (arith, is))
 purge_of kind.Time a n is = absurd (omega (arith, is))
 purge_of kind.Occult a n is = absurd (omega (arith, is))
+purge_of kind.ClueOccult a n is = absurd (omega (arith, is))
 
 or_true : (v w : Bool) → w ≡ true → (v || w) ≡ true
 or_true true w is = refl

@@ -1,13 +1,14 @@
 -- Whether a journal is the next one depends on headers alone, so it doesn't matter which contents a dump leaves out.
-use Rattle.std.specs.Prelude.{All, IfSome, zero, suc, filter, if◌then◌else◌}
+use Rattle.std.specs.Prelude.{All, IfSome, zero, suc, filter, not, nat_le, slice_get, if◌then◌else◌}
 use Rattle.std.specs.List.{list_any, fold}
 use Rattle.std.specs.Option.{option_or}
-use Rattle.std.proofs.Common.{◌≡◌, ℕ, ◌+◌, ◌-◌, ◌<◌, ◌==◌, ◌||◌, max, Bool, true, false, cond, List, [], ◌∷◌, ◌++◌, length, map, get_or, drop, Option, Some, None, refl, sym, ap, ◌∙◌, subst, arith}
+use Rattle.std.proofs.Common.{◌≡◌, ℕ, ◌+◌, ◌-◌, ◌<◌, ◌==◌, ◌||◌, ◌&&◌, max, Bool, true, false, cond, List, [], ◌∷◌, ◌++◌, length, map, get_or, drop, Option, Some, None, refl, sym, ap, ap₂, ◌∙◌, subst, arith}
 use Rattle.std.proofs.lemmas.List.{map-append, length-map, drop-map}
 use Rattle.std.proofs.lemmas.List.Elements.{All-map, All-drop}
 use Rattle.std.proofs.lemmas.Simd.{map-map}
 use Rattle.clue_index.specs.Added.{Added, Mark, trail_of, different_clues}
 use Rattle.clue_index.specs.Trail.{count_of, last_of}
+use Rattle.ledger_bytes.specs.declared.digest.Digest.{Digest}
 use Rattle.journal_record.specs.Entry.{Entry, content_digest_of}
 use Rattle.journal_record.specs.Rules.{is_no_clue}
 use Rattle.journal_record.specs.declared.header.Header.{Header}
@@ -16,12 +17,12 @@ use Rattle.journal_record.specs.declared.header.Kind.TheVariants as kind
 use Rattle.journal_record.specs.declared.member.Member.{Member}
 use Rattle.pseudo_genesis.specs.declared.base.Base.{Base}
 use Rattle.ledger_model.specs.Bases.{base_of, clue_mark_of}
-use Rattle.ledger_model.specs.Behind.{AreBehind, BeginsWell, IsNextBehind, IsOwnBehind, clues_behind, count_behind, first_of, has_own_purge, is_purge_to, names, numbered_from}
-use Rattle.ledger_model.specs.Clues.{has_clue}
+use Rattle.ledger_model.specs.Behind.{AreBehind, BeginsWell, IsNextBehind, IsOwnBehind, clues_behind, count_behind, first_of, has_own_purge, is_purge_to, numbered_from, shown_behind}
+use Rattle.ledger_model.specs.Clues.{has_clue, is_of_clue}
 use Rattle.ledger_model.specs.History.{History, history, journals, greatest_point, leaf_digest, point, purge_point}
 use Rattle.ledger_model.specs.Members.{admits, admitted_members, founders, member_of, members}
 use Rattle.ledger_model.specs.Numbers.{is_numbered, numbered_in, place_from}
-use Rattle.ledger_model.specs.Targets.{is_hidden, kind_at, leaf_at}
+use Rattle.ledger_model.specs.Targets.{hides, hides_as, is_hidden, is_hidden_by, kind_at, leaf_at, names}
 use Rattle.dump_model.specs.Shown.{base_at, shown, ledger_dump}
 use Rattle.audit_dump.specs.Contents.{IsKeptWhole}
 use Rattle.audit_dump.specs.Known.{journal_of, journals_of}
@@ -35,14 +36,17 @@ module _ (h : History) where
 
   -- ---- what is counted and looked for
 
-  pub filter_seen : (p : Entry → Bool) → ((e : Entry) → p (seen h e) ≡ p e) → (es : List Entry) → filter p (seen_all es) ≡ seen_all (filter p es)
-  filter_seen p same [] = refl
-  filter_seen p same (e ∷ es) =
-      ap (λ v. cond v (seen h e ∷ filter p (seen_all es)) (filter p (seen_all es))) (same e) ∙ ap (λ (l : List Entry). cond (p e) (seen h e ∷ l) l) (filter_seen p same es)
-      ∙ by (p e) where
-        by : (v : Bool) → cond v (seen h e ∷ seen_all (filter p es)) (seen_all (filter p es)) ≡ seen_all (cond v (e ∷ filter p es) (filter p es))
+  filter_as : (p q : Entry → Bool) → ((e : Entry) → p (seen h e) ≡ q e) → (es : List Entry) → filter p (seen_all es) ≡ seen_all (filter q es)
+  filter_as p q same [] = refl
+  filter_as p q same (e ∷ es) =
+      ap (λ v. cond v (seen h e ∷ filter p (seen_all es)) (filter p (seen_all es))) (same e) ∙ ap (λ (l : List Entry). cond (q e) (seen h e ∷ l) l) (filter_as p q same es)
+      ∙ by (q e) where
+        by : (v : Bool) → cond v (seen h e ∷ seen_all (filter q es)) (seen_all (filter q es)) ≡ seen_all (cond v (e ∷ filter q es) (filter q es))
         by true = refl
         by false = refl
+
+  pub filter_seen : (p : Entry → Bool) → ((e : Entry) → p (seen h e) ≡ p e) → (es : List Entry) → filter p (seen_all es) ≡ seen_all (filter p es)
+  filter_seen p same es = filter_as p p same es
 
   any_seen : (p : Header → Bool) (es : List Entry) → list_any (λ (e : Entry). p e.header) (seen_all es) ≡ list_any (λ (e : Entry). p e.header) es
   any_seen p [] = refl
@@ -96,6 +100,26 @@ module _ (h : History) where
       ∙ ap (λ (l : List Entry). numbered_in (first + (p - first)) l member number) (drop-map (seen h) (p - first) es)
       ∙ numbers_seen (first + (p - first)) member number (drop (p - first) es)
 
+  -- ---- what is hidden
+
+  hides_seen : (target : Entry) (es : List Entry) → list_any (hides (seen h target)) (seen_all es) ≡ list_any (hides target) es
+  hides_seen target es = any_seen (λ (y : Header). hides_as y.kind y target.header) es
+
+  hidden_seen : (es all : List Entry) (n : ℕ) → is_hidden_by (seen_all all) (slice_get (seen_all es) n) ≡ is_hidden_by all (slice_get es n)
+  hidden_seen [] all n = refl
+  hidden_seen (e ∷ es) all zero = hides_seen e all
+  hidden_seen (e ∷ es) all (suc n) = hidden_seen es all n
+
+  shown_seen : (es : List Entry) (clue : Digest) → shown_behind (seen_all es) clue ≡ seen_all (shown_behind es clue)
+  shown_seen es clue =
+      filter_as (λ e. is_of_clue clue e && (nat_le (greatest_point (seen_all es)) e.header.jsn && not (list_any (hides e) (seen_all es))))
+      (λ e. is_of_clue clue e && (nat_le (greatest_point es) e.header.jsn && not (list_any (hides e) es)))
+      (λ e. ap₂ (λ (p : ℕ) (v : Bool). is_of_clue clue e && (nat_le p e.header.jsn && not v)) (points_seen es) (hides_seen e es)) es
+
+  none_seen : (es : List Entry) → seen_all es ≡ [] → es ≡ []
+  none_seen [] is = refl
+  none_seen (e ∷ es) is = absurd cc
+
   -- ---- the next journal
 
   own_seen : (start : Option Base) (es : List Entry) (x : Header) (k : Kind) → IsOwnBehind start es x k → IsOwnBehind start (seen_all es) x k
@@ -111,11 +135,16 @@ module _ (h : History) where
   own_seen start es x kind.Member o = o ∙ sym (count_seen start es)
   own_seen start es x kind.Time o = tt
   own_seen start es x kind.Occult o = record {
-    shown = any_seen (λ (y : Header). names x.a (record { header = y; content = []; who = [] })) es ∙ o.shown;
+    named = λ less. any_seen (λ (y : Header). names x.a (record { header = y; content = []; who = [] })) es ∙ o.named less;
+    shown = λ le. hidden_seen es es (x.a - first_of start) ∙ o.shown le;
     front = λ less. own_purge_seen start es ∙ o.front less;
     kept = λ le. omega (arith, o.kept le, points_seen es);
     target_is = λ le. kinds_seen es (x.a - first_of start) ∙ o.target_is le;
     leaf_is = λ le. o.leaf_is le ∙ sym (leaves_at_seen es (x.a - first_of start));
+  }
+  own_seen start es x kind.ClueOccult o = record {
+    count = o.count ∙ ap (λ (t : Added). count_of (trail_of t x.link.0)) (sym (clues_seen start es));
+    shown = λ own none. o.shown (sym (own_purge_seen start es) ∙ own) (none_seen (shown_behind es x.link) (sym (shown_seen es x.link) ∙ none));
   }
   own_seen start es x kind.Purge o = record { above = omega (arith, o.above, points_seen es); target_is = λ le. kinds_seen es (x.a - first_of start) ∙ o.target_is le }
 

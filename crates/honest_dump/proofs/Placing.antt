@@ -16,7 +16,7 @@ use Rattle.script_lines.specs.declared.line.Line.TheVariants as line
 use Rattle.script_lines.specs.declared.said.SaidApproval.{SaidApproval}
 use Rattle.time_peg.specs.Entries.{Making}
 use Rattle.ledger_model.specs.Anchors.{stamp_of, time_header, time_journal}
-use Rattle.ledger_model.specs.Appends.{append_header, append_with, clue_of, member_header, member_job, occult_header, occult_job, purge_header, purge_job}
+use Rattle.ledger_model.specs.Appends.{append_header, append_with, clue_of, member_header, member_job, occult_header, occult_job, clue_occult_header, clue_occult_job, purge_header, purge_job}
 use Rattle.ledger_model.specs.Genesis.{genesis_header, new_ledger}
 use Rattle.ledger_model.specs.History.{History, id, journals, size, close}
 use Rattle.ledger_model.specs.Lawful.{IsLawful}
@@ -29,7 +29,7 @@ use Rattle.ledger_model.proofs.LawfulLaws.{some_journal}
 use Rattle.ledger_model.proofs.PreparedLaws.{id_kept}
 use Rattle.audit_dump.specs.Approvals.{IsPlacedBy}
 use Rattle.audit_dump.specs.Placed.{shown_whole}
-use Rattle.audit_dump.proofs.Placed.{record_is, occult_is, member_is, purge_is}
+use Rattle.audit_dump.proofs.Placed.{record_is, occult_is, clue_occult_is, member_is, purge_is}
 use Rattle.honest_dump.specs.Runs.{IsOfRuns, first_blocks}
 use Rattle.honest_dump.proofs.Fewer.{first_grows, first_journals, first_some, rest, runs_keep}
 use Rattle.honest_dump.proofs.Running.{Places, wider, id_close, run_keeps, unrepeated}
@@ -69,7 +69,7 @@ all_short given fits = by given (and_parts (nat_le (length given) APPROVAL_LIMIT
 
 module _ (scheme : Scheme) where
   line_placed : (h : History) (making : Option Making) (step : Step) (what : Result Line Refusal) (e : Entry) → Places scheme h making step what e → IsPlaced scheme (id h) (journals h) e
-  unfolding append_with append_header member_job member_header occult_job occult_header purge_job purge_header time_header
+  unfolding append_with append_header member_job member_header occult_job occult_header clue_occult_job clue_occult_header purge_job purge_header time_header
   line_placed h making step (Err refusal) e p = let never = p.placed in absurd cc
   line_placed h making step (Ok (line.Append member clue content proof number)) e p =
       let parts = and_parts (nat_le (length clue) NAME_LIMIT && nat_le (length content) CONTENT_LIMIT) (nat_le (length proof) PROOF_LIMIT) p.fits in
@@ -82,6 +82,9 @@ module _ (scheme : Scheme) where
     by_stamp (Some s) placed = subst (IsPlaced scheme (id h) (journals h)) (same_Some _ e placed) refl
   line_placed h making step (Ok (line.Occult target leaf given)) e p =
       subst (IsPlaced scheme (id h) (journals h)) (same_Some _ e p.placed) (occult_is scheme real_limits h target leaf given (all_short given p.fits) p.accepted)
+  line_placed h making step (Ok (line.OccultClue name count given)) e p =
+      let parts = and_parts (nat_le (length name) NAME_LIMIT) (fits_approvals given) p.fits in
+      subst (IsPlaced scheme (id h) (journals h)) (same_Some _ e p.placed) (clue_occult_is scheme real_limits h name count given (all_short given parts.1) p.accepted)
   line_placed h making step (Ok (line.Purge q told given)) e p =
       subst (IsPlaced scheme (id h) (journals h)) (same_Some _ e p.placed) (purge_is scheme real_limits h q told given (all_short given p.fits) p.accepted)
   line_placed h making step (Ok (line.Get n)) e p = let never = p.placed in absurd cc

@@ -18,7 +18,7 @@ use Rattle.ledger_bytes.specs.declared.refusal.Refusal.{Refusal}
 use Rattle.journal_record.specs.Approval.{approval_bytes, who_of}
 use Rattle.journal_record.specs.Entry.{Entry, content_digest_of, who_digest_of}
 use Rattle.journal_record.specs.Header.{HasWidths, spelling}
-use Rattle.journal_record.specs.Request.{clue_digest_of, member_request_digest_of, occult_request_digest_of, purge_request_digest_of}
+use Rattle.journal_record.specs.Request.{clue_digest_of, member_request_digest_of, occult_request_digest_of, clue_occult_request_digest_of, purge_request_digest_of}
 use Rattle.journal_record.specs.declared.approval.Approval.{Approval}
 use Rattle.journal_record.specs.declared.approval.TheConstants.{WHO_LIMIT}
 use Rattle.journal_record.specs.declared.stamp.Stamp.{Stamp}
@@ -28,7 +28,7 @@ use Rattle.script_lines.specs.declared.said.SaidApproval.{SaidApproval}
 use Rattle.script_lines.specs.Limits.{fits_approvals}
 use Rattle.time_peg.specs.Entries.{Making}
 use Rattle.ledger_model.specs.Anchors.{stamp_of, time_header, time_journal}
-use Rattle.ledger_model.specs.Appends.{approval_of, request_with, append_header, append_with, clue_of, member_header, member_job, occult_header, occult_job, purge_header, purge_job}
+use Rattle.ledger_model.specs.Appends.{approval_of, request_with, append_header, append_with, clue_of, member_header, member_job, occult_header, occult_job, clue_occult_header, clue_occult_job, purge_header, purge_job}
 use Rattle.ledger_model.specs.Clues.{jsns_with, last_journal, next_ordinal}
 use Rattle.journal_record.specs.declared.header.Kind.TheVariants as kind
 use Rattle.journal_record.specs.Rules.{version_of, clue_prev_ok, is_no_clue}
@@ -38,7 +38,7 @@ use Rattle.ledger_model.specs.Limits.{real_limits}
 use Rattle.ledger_model.specs.Scheme.{Scheme}
 use Rattle.ledger_model.specs.Step.{Step}
 use Rattle.ledger_model.specs.declared.genesis.Genesis.{Genesis}
-use Rattle.ledger_model.proofs.AcceptedLaws.{record_next, member_next, occult_own, purge_own, stamp_few}
+use Rattle.ledger_model.proofs.AcceptedLaws.{record_next, member_next, occult_own, clue_occult_next, purge_own, stamp_few}
 use Rattle.ledger_model.proofs.FitLaws.{size_few}
 use Rattle.ledger_model.proofs.KeepLaws.{journals_close, journals_wider, real_within}
 use Rattle.ledger_model.proofs.LawfulLaws.{numbers_few}
@@ -98,7 +98,7 @@ version_few number len = elim (number == 0 && nat_le len 65_536) as (λ first. c
 
 module _ (scheme : Scheme) (h : History) (making : Option Making) (step : Step) where
   placed_sizes : (what : Result Line Refusal) (e : Entry) → Places scheme h making step what e → HasSizes e
-  unfolding append_with append_header member_job member_header occult_job occult_header purge_job purge_header time_header
+  unfolding append_with append_header member_job member_header occult_job occult_header clue_occult_job clue_occult_header purge_job purge_header time_header
   placed_sizes (Err refusal) e p = let never = p.placed in absurd cc
   placed_sizes (Ok (line.Append member clue content proof number)) e p =
       let parts = and_parts (nat_le (length clue) NAME_LIMIT && nat_le (length content) CONTENT_LIMIT) (nat_le (length proof) PROOF_LIMIT) p.fits in
@@ -186,6 +186,27 @@ module _ (scheme : Scheme) (h : History) (making : Option Making) (step : Step) 
           who_digest = length-sha256 _;
         };
         who = whos_few scheme message given p.fits;
+      })
+  placed_sizes (Ok (line.OccultClue name count given)) e p =
+      let parts = and_parts (nat_le (length name) NAME_LIMIT) (fits_approvals given) p.fits in
+      let message = clue_occult_request_digest_of (id h) (clue_of name).0 count in
+      let next = clue_occult_next real_limits real_within h (clue_of name) count (map (shown scheme message) given) p.accepted p.lawful.journals_are in
+      subst HasSizes (same_Some _ e p.placed) (record {
+        widths = record {
+          version = omega arith;
+          jsn = omega (arith, size_few h p.lawful);
+          member = omega arith;
+          clue_ord = omega arith;
+          clue_prev = omega arith;
+          a = omega (arith, leb-true count 4_294_967_295 (and_parts (nat_lt 0 count) (nat_le count 4_294_967_295) next.layout.a).1);
+          b = omega arith;
+          content_len = omega arith;
+          clue = refl;
+          link = clue_wide name;
+          content_digest = length-sha256 _;
+          who_digest = length-sha256 _;
+        };
+        who = whos_few scheme message given parts.1;
       })
   placed_sizes (Ok (line.Purge q told given)) e p =
       let message = purge_request_digest_of (id h) q told.0 in

@@ -9,8 +9,8 @@ use Rattle.ledger_bytes.specs.declared.limits.TheConstants.{CONTENT_LIMIT}
 use Rattle.ledger_bytes.specs.Fields.{Unread, left_from, ◌>>=◌, bytes_at, number_at, digest_at, check, IsBytes}
 use Rattle.journal_record.specs.declared.approval.TheConstants.{WHO_LIMIT}
 use Rattle.journal_record.specs.declared.header.Header.{Header}
-use Rattle.journal_record.specs.Reading.{carried_at, layout_at, front_at, clue_at, own_at, parts_at, fields_at, header_at, known_version, known_kind}
-use Rattle.journal_record.specs.Rules.{IsHeader, jsn_ok, member_ok, clue_ok, clue_ord_ok, clue_prev_ok, version_of, carries_a, carries_len, a_ok, b_ok, content_len_ok}
+use Rattle.journal_record.specs.Reading.{carried_at, layout_at, front_at, clue_at, own_at, parts_at, fields_at, header_at, known_version, known_kind, kind_in}
+use Rattle.journal_record.specs.Rules.{IsHeader, jsn_ok, member_ok, clue_ok, clue_ord_ok, clue_prev_ok, version_of, carries_a, carries_len, a_ok, b_ok, link_ok, content_len_ok}
 use Rattle.journal_record.specs.declared.header.Kind.{Kind}
 use Rattle.journal_record.specs.declared.header.Kind.TheVariants as kind
 use Rattle.journal_record.proofs.ReadingLaws.{header_back}
@@ -117,7 +117,8 @@ own_local : (version : ℕ) (kind : Kind) (jsn : ℕ) → IsLocal 48 (own_at ver
 unfolding own_at
 own_local version kind jsn = local_then (number_at w64) _ 8 40 (number_local w64)
     (λ a. local_check (a_ok kind jsn a && carries_a version kind a) 58 _ 40 (λ _. local_then (number_at w64) _ 8 32 (number_local w64)
-    (λ b. local_check (b_ok kind b) 66 _ 32 (λ _. local_then digest_at _ 32 0 digest_local (λ link. nothing_local _)))))
+    (λ b. local_check (b_ok kind b) 66 _ 32 (λ _. local_then digest_at _ 32 0 digest_local
+    (λ link. local_check (link_ok kind link) 74 _ 0 (λ _. nothing_local _))))))
 
 parts_local : (version : ℕ) (kind : Kind) → IsLocal 68 (parts_at version kind)
 unfolding parts_at
@@ -146,7 +147,7 @@ layout_local : IsLocal 110 layout_at
 unfolding layout_at
 layout_local = local_then (number_at w8) _ 1 109 (number_local w8)
     (λ version. local_after (known_version version) _ 109 (λ _ _. local_then (number_at w8) _ 1 108 (number_local w8)
-    (λ code. local_after (known_kind code) _ 108 (λ kind _. carried_local version kind))))
+    (λ code. local_after (known_kind code) _ 108 (λ kind _. local_after (kind_in version kind code) _ 108 (λ _ _. carried_local version kind)))))
 
 -- a reading behind a look at what it reads
 local_guard : {A B : Type 0} (guard : Unread → Result (A × Unread) Bad) (read : Unread → Result (B × Unread) Bad) (m n : ℕ) → m ≤ n → IsLocal m guard → IsLocal n read → IsLocal n (λ l. guard l >>= λ _. read l)
@@ -207,6 +208,7 @@ content_few h rules = few h.kind h.content_len rules.content_len
     few kind.Time len ok = grind (arith, ok)
     few kind.Occult len ok = grind (arith, ok)
     few kind.Purge len ok = grind (arith, ok)
+    few kind.ClueOccult len ok = grind (arith, ok)
 
 pub item_near : (whole longer : ℕ) (rest more : List ℕ) → IsBytes rest → most_bytes ≤ length rest → item_at (left_from longer (rest ++ more)) ≡ with_more longer more (item_at (left_from whole rest))
 unfolding item_at

@@ -5,7 +5,7 @@ use Rattle.std.specs.Prelude.{IfOk}
 use Rattle.std.proofs.lemmas.List.{append-nil}
 use Rattle.ledger_bytes.specs.declared.digest.Digest.{Digest}
 use Rattle.ledger_bytes.specs.declared.failure.Bad.{Bad}
-use Rattle.ledger_bytes.specs.declared.failure.Bad.TheVariants.{BadFixedField, NewerFormat, Short, Trailing}
+use Rattle.ledger_bytes.specs.declared.failure.Bad.TheVariants.{BadFixedField, BadKind, NewerFormat, Short, Trailing}
 use Rattle.ledger_bytes.specs.Fields.{Unread, ◌>>=◌, number_at, digest_at, IsBytes, Took, ReadsBack, left_from, bytes_at}
 use Rattle.ledger_bytes.proofs.Fields.{bind_ok, Took-then, wide32, wide64, number_back, byte_back, digest_back, IsTextOf, text_none, text_then, digest_text, number_text, byte_text, cut_told, trailing_told, check_ok, bytes_again, number_again, byte_again, bytes_text}
 use Rattle.journal_record.specs.declared.header.Header.{Header}
@@ -15,11 +15,11 @@ use Rattle.journal_record.specs.declared.reading.ClueFields.{ClueFields}
 use Rattle.journal_record.specs.declared.reading.OwnFields.{OwnFields}
 use Rattle.journal_record.specs.declared.reading.Parts.{Parts}
 use Rattle.journal_record.specs.Header.{code_of, spelling, HasWidths}
-use Rattle.journal_record.specs.Rules.{version_ok, jsn_ok, member_ok, clue_ok, clue_ord_ok, clue_prev_ok, a_ok, b_ok, content_len_ok, IsHeader, version_of, is_version, carries_a, carries_len}
+use Rattle.journal_record.specs.Rules.{version_ok, jsn_ok, member_ok, clue_ok, clue_ord_ok, clue_prev_ok, a_ok, b_ok, content_len_ok, IsHeader, version_of, is_version, is_kind_in, link_ok, carries_a, carries_len}
 use Rattle.journal_record.specs.Reading.{known_kind, front_at, clue_at, own_at, parts_at, header_at, header_of, carried_at, layout_at, fields_at}
 use Rattle.journal_record.proofs.ReadingSteps.{ruled, plain_takes, field_takes, field_text, kind_takes, kind_again, ended, answered, whole_takes, whole_told, test, guard_text}
 use Rattle.std.proofs.lemmas.Bool.{eqb-true, and_parts, and_from}
-use Rattle.journal_record.proofs.Versions.{bool_cases, version_known, version_carries_a, version_carries_len, first_own, second_own, own_second}
+use Rattle.journal_record.proofs.Versions.{bool_cases, version_has_kind, version_known, version_carries_a, version_carries_len, first_own, second_own, own_second}
 
 abbrev pub back32 : ReadsBack (number_at w32) (to_be_bytes w32) (λ n. n < 2 ^ 32)
 back32 = number_back w32 (2 ^ 32) wide32
@@ -147,34 +147,35 @@ record IsOwn (version : ℕ) (kind : Kind) (jsn : ℕ) (x : OwnFields) : Type 0 
   link_width : length x.link.0 ≡ 32
   a : (a_ok kind jsn x.a && carries_a version kind x.a) ≡ true
   b : b_ok kind x.b ≡ true
+  link : link_ok kind x.link ≡ true
 
 abbrev from_link : ℕ → ℕ → Digest × Unread → Result (OwnFields × Unread) Bad
 from_link a b link = Ok (record { a = a; b = b; link = link.0 }, link.1)
 
-abbrev from_b : ℕ → ℕ × Unread → Result (OwnFields × Unread) Bad
-from_b a b = digest_at b.1 >>= from_link a b.0
+abbrev from_b : Kind → ℕ → ℕ × Unread → Result (OwnFields × Unread) Bad
+from_b kind a b = digest_at b.1 >>= ruled (link_ok kind) (at_place 74) (from_link a b.0)
 
 abbrev from_a : Kind → ℕ × Unread → Result (OwnFields × Unread) Bad
-from_a kind a = number_at w64 a.1 >>= ruled (b_ok kind) (at_place 66) (from_b a.0)
+from_a kind a = number_at w64 a.1 >>= ruled (b_ok kind) (at_place 66) (from_b kind a.0)
 
 own_takes : (version : ℕ) (kind : Kind) (jsn : ℕ) (l : Unread) (x : OwnFields) (after : Unread) → IsBytes l.rest → own_at version kind jsn l ≡ Ok (x, after) → Took l (own_text x) after × IsOwn version kind jsn x
 unfolding own_at
 own_takes version kind jsn l x after bytes e =
     let a = field_takes (number_at w64) (to_be_bytes w64) (λ n. n < 2 ^ 64) back64 (λ n. a_ok kind jsn n && carries_a version kind n) (at_place 58) (from_a kind) l (x, after) bytes e in
-    let b = field_takes (number_at w64) (to_be_bytes w64) (λ n. n < 2 ^ 64) back64 (b_ok kind) (at_place 66) (from_b a.0.0) a.0.1 (x, after) a.1.bytes a.4 in
-    let k = plain_takes digest_at (λ d. d.0) (λ d. length d.0 ≡ 32) digest_back (from_link a.0.0 b.0.0) b.0.1 (x, after) b.1.bytes b.4 in
+    let b = field_takes (number_at w64) (to_be_bytes w64) (λ n. n < 2 ^ 64) back64 (b_ok kind) (at_place 66) (from_b kind a.0.0) a.0.1 (x, after) a.1.bytes a.4 in
+    let k = field_takes digest_at (λ d. d.0) (λ d. length d.0 ≡ 32) digest_back (link_ok kind) (at_place 74) (from_link a.0.0 b.0.0) b.0.1 (x, after) b.1.bytes b.4 in
     let t1 = Took-then l (to_be_bytes w64 a.0.0) a.0.1 (to_be_bytes w64 b.0.0) b.0.1 a.1 b.1 in
     let t2 = Took-then l (to_be_bytes w64 a.0.0 ++ to_be_bytes w64 b.0.0) b.0.1 k.0.0.0 k.0.1 t1 k.1 in
-    let fits : IsOwn version kind jsn (record { a = a.0.0; b = b.0.0; link = k.0.0 }) = record { a_width = a.2; b_width = b.2; link_width = k.2; a = a.3; b = b.3 } in
-    answered own_text (IsOwn version kind jsn) l (record { a = a.0.0; b = b.0.0; link = k.0.0 }) x k.0.1 after k.3 t2 fits
+    let fits : IsOwn version kind jsn (record { a = a.0.0; b = b.0.0; link = k.0.0 }) = record { a_width = a.2; b_width = b.2; link_width = k.2; a = a.3; b = b.3; link = k.3 } in
+    answered own_text (IsOwn version kind jsn) l (record { a = a.0.0; b = b.0.0; link = k.0.0 }) x k.0.1 after k.4 t2 fits
 
 own_is : (version : ℕ) (kind : Kind) (jsn : ℕ) (x : OwnFields) (whole : ℕ) → IsOwn version kind jsn x → IsTextOf (own_at version kind jsn) whole (own_text x) x
 unfolding own_at
 own_is version kind jsn x whole fits =
     let r2 : List ℕ = x.link.0 ++ [] in
     let r1 : List ℕ = to_be_bytes w64 x.b ++ r2 in
-    let link = text_then digest_at (from_link x.a x.b) whole x.link.0 [] x.link x (digest_text x.link whole fits.link_width) (text_none whole x) in
-    let b = field_text (number_at w64) (b_ok kind) (at_place 66) (from_b x.a) whole (to_be_bytes w64 x.b) r2 x.b x (number_text w64 (2 ^ 64) wide64 x.b whole fits.b_width) fits.b link in
+    let link = field_text digest_at (link_ok kind) (at_place 74) (from_link x.a x.b) whole x.link.0 [] x.link x (digest_text x.link whole fits.link_width) fits.link (text_none whole x) in
+    let b = field_text (number_at w64) (b_ok kind) (at_place 66) (from_b kind x.a) whole (to_be_bytes w64 x.b) r2 x.b x (number_text w64 (2 ^ 64) wide64 x.b whole fits.b_width) fits.b link in
     let a = field_text (number_at w64) (λ n. a_ok kind jsn n && carries_a version kind n) (at_place 58) (from_a kind) whole (to_be_bytes w64 x.a) r1 x.a x (number_text w64 (2 ^ 64) wide64 x.a whole fits.a_width) fits.a b in
     subst (λ (t : List ℕ). IsTextOf (own_at version kind jsn) whole t x) (sym (regroup3 (to_be_bytes w64 x.a) (to_be_bytes w64 x.b) x.link.0)) a
 
@@ -315,6 +316,7 @@ whole_from h x own = record {
     clue_prev = x.clue.prev;
     a = (and_parts (a_ok h.kind h.jsn h.a) (carries_a h.version h.kind h.a) x.own.a).0;
     b = x.own.b;
+    link = x.own.link;
     content_len = (and_parts (content_len_ok h.kind h.content_len) (carries_len h.version h.kind h.content_len) x.parts.len).0;
   };
   widths = fields_widths h x;
@@ -328,7 +330,7 @@ fields_from h x =
     let is : h.version ≡ version_of h.kind h.a h.content_len = eqb-true _ _ r.version in record {
       front = record { version_width = w.version; jsn_width = w.jsn; member_width = w.member; version = ap is_version is ∙ version_known h.kind h.a h.content_len; jsn = r.jsn; member = r.member };
       clue = record { clue_width = w.clue; ord_width = w.clue_ord; prev_width = w.clue_prev; clue = r.clue; ord = r.clue_ord; prev = r.clue_prev };
-      own = record { a_width = w.a; b_width = w.b; link_width = w.link; a = and_from _ _ r.a (subst (λ v. carries_a v h.kind h.a ≡ true) (sym is) (version_carries_a h.kind h.a h.content_len)); b = r.b };
+      own = record { a_width = w.a; b_width = w.b; link_width = w.link; a = and_from _ _ r.a (subst (λ v. carries_a v h.kind h.a ≡ true) (sym is) (version_carries_a h.kind h.a h.content_len)); b = r.b; link = r.link };
       parts = record { len_width = w.content_len; content_width = w.content_digest; who_width = w.who_digest; len = and_from _ _ r.content_len (subst (λ v. carries_len v h.kind h.content_len ≡ true) (sym is) (version_carries_len h.kind h.a h.content_len)) };
     }
 
@@ -449,8 +451,11 @@ looked_text h whole w own =
 abbrev from_layout_kind : ℕ → Unread → Kind → Result (Unit {0} × Unread) Bad
 from_layout_kind version l kind = carried_at version kind l
 
+abbrev from_layout_in : ℕ → ℕ → Unread → Kind → Result (Unit {0} × Unread) Bad
+from_layout_in version code l kind = test (is_kind_in version kind) (BadKind code) >>= λ _. from_layout_kind version l kind
+
 abbrev from_layout_code : ℕ → ℕ × Unread → Result (Unit {0} × Unread) Bad
-from_layout_code version code = known_kind code.0 >>= from_layout_kind version code.1
+from_layout_code version code = known_kind code.0 >>= from_layout_in version code.0 code.1
 
 abbrev from_layout : ℕ × Unread → Result (Unit {0} × Unread) Bad
 from_layout version = number_at w8 version.1 >>= from_layout_code version.0
@@ -459,7 +464,7 @@ abbrev from_layout_version : ℕ × Unread → Result (Unit {0} × Unread) Bad
 from_layout_version version = test (is_version version.0) (NewerFormat version.0) >>= λ _. from_layout version
 
 -- behind a version and a kind that are known, the version is looked at
-layout_told : (h : Header) (whole : ℕ) (rest : List ℕ) → is_version h.version ≡ true → layout_at (left_from whole (spelling h ++ rest)) ≡ carried_at h.version h.kind (left_from whole (behind_kind h ++ rest))
+layout_told : (h : Header) (whole : ℕ) (rest : List ℕ) → is_version h.version ≡ true → layout_at (left_from whole (spelling h ++ rest)) ≡ from_layout_in h.version (code_of h.kind) (left_from whole (behind_kind h ++ rest)) h.kind
 unfolding layout_at
 layout_told h whole rest known =
     let r2 : List ℕ = behind_kind h in
@@ -468,7 +473,7 @@ layout_told h whole rest known =
     ∙ (ap (λ r. r >>= from_layout_version) (byte_again h.version whole (r1 ++ rest))
     ∙ (ap (λ b. test b (NewerFormat h.version) >>= λ _. from_layout (h.version, left_from whole (r1 ++ rest))) known
     ∙ (ap (λ r. r >>= from_layout_code h.version) (byte_again (code_of h.kind) whole (r2 ++ rest))
-    ∙ ap (λ r. r >>= from_layout_kind h.version (left_from whole (r2 ++ rest))) (kind_again h.kind))))
+    ∙ ap (λ r. r >>= from_layout_in h.version (code_of h.kind) (left_from whole (r2 ++ rest))) (kind_again h.kind))))
 
 -- where the version isn't the first, it is looked at further behind
 carried_second : (version : ℕ) (kind : Kind) (l : Unread) → eqb version 1 ≡ false → carried_at version kind l ≡ look_ahead kind l
@@ -479,10 +484,11 @@ carried_second version kind l other = ap (λ b. cond b (Ok (tt, l)) (look_ahead 
 second_taken : (h : Header) (whole : ℕ) (rest : List ℕ) (u : Unit {0} × Unread) → HasWidths h → is_version h.version ≡ true → eqb h.version 1 ≡ false
     → layout_at (left_from whole (spelling h ++ rest)) ≡ Ok u → is_second h ≡ true
 second_taken h whole rest u w known other e =
+    let inside = bind_ok (test (is_kind_in h.version h.kind) (BadKind (code_of h.kind))) (λ _. carried_at h.version h.kind (left_from whole (behind_kind h ++ rest))) u (sym (layout_told h whole rest known) ∙ e) in
     let look : look_ahead h.kind (left_from whole (ahead h ++ (digests h ++ rest))) ≡ Ok u =
     ap (λ (s : List ℕ). look_ahead h.kind (left_from whole s)) (sym (append_assoc (ahead h) (digests h) rest))
     ∙ (sym (carried_second h.version h.kind (left_from whole (behind_kind h ++ rest)) other)
-    ∙ (sym (layout_told h whole rest known) ∙ e)) in
+    ∙ inside.2) in
     let told = sym (looked_ahead h whole (digests h ++ rest) w) ∙ look in
     let b = bind_ok (test (is_second h) (BadFixedField 0)) (λ _. Ok (tt, left_from whole (digests h ++ rest))) u told in
     (check_ok (is_second h) (BadFixedField 0) tt b.0 b.1).0
@@ -532,8 +538,12 @@ layout_text h whole x =
     let c = carried_text h whole x in
     let r1 : List ℕ = code_of h.kind ∷ [] ++ c.0 in
     let fields = fields_from h x in
-    let kind : IsTextOf (λ l. known_kind (code_of h.kind) >>= from_layout_kind h.version l) whole c.0 tt =
-    subst (λ (k : Result Kind Bad). IsTextOf (λ l. k >>= from_layout_kind h.version l) whole c.0 tt) (sym (kind_again h.kind)) c.3 in
+    let own : h.version ≡ version_of h.kind h.a h.content_len = eqb-true _ _ x.rules.version in
+    let has : is_kind_in h.version h.kind ≡ true = ap (λ v. is_kind_in v h.kind) own ∙ version_has_kind h.kind h.a h.content_len in
+    let inside : IsTextOf (λ l. from_layout_in h.version (code_of h.kind) l h.kind) whole c.0 tt =
+    subst (λ (v : Bool). IsTextOf (λ l. test v (BadKind (code_of h.kind)) >>= λ _. carried_at h.version h.kind l) whole c.0 tt) (sym has) c.3 in
+    let kind : IsTextOf (λ l. known_kind (code_of h.kind) >>= from_layout_in h.version (code_of h.kind) l) whole c.0 tt =
+    subst (λ (k : Result Kind Bad). IsTextOf (λ l. k >>= from_layout_in h.version (code_of h.kind) l) whole c.0 tt) (sym (kind_again h.kind)) inside in
     let code = text_then (number_at w8) (from_layout_code h.version) whole (code_of h.kind ∷ []) c.0 (code_of h.kind) tt (byte_text (code_of h.kind) whole) kind in
     let version = field_text (number_at w8) is_version NewerFormat from_layout whole (h.version ∷ []) r1 h.version tt (byte_text h.version whole) fields.front.version code in
     (h.version ∷ [] ++ r1, c.1, c.2, version)

@@ -8,7 +8,7 @@ use Rattle.ledger_bytes.specs.declared.failure.Bad.TheVariants.{Trailing}
 use Rattle.ledger_bytes.specs.Fields.{Unread, left_from, ◌>>=◌, end_at, IsBytes, Took, ReadsBack}
 use Rattle.ledger_bytes.proofs.Fields.{bind_ok, check_ok, ok_is, IsTextOf, text_then, all_of}
 use Rattle.journal_record.specs.declared.header.Kind.{Kind}
-use Rattle.journal_record.specs.declared.header.Kind.TheVariants.{Genesis, Content, Member, Time, Occult, Purge}
+use Rattle.journal_record.specs.declared.header.Kind.TheVariants.{Genesis, Content, Member, Time, Occult, Purge, ClueOccult}
 use Rattle.journal_record.specs.Header.{code_of}
 use Rattle.journal_record.specs.Rules.{kind_of}
 use Rattle.journal_record.specs.Reading.{known_kind}
@@ -110,7 +110,8 @@ kind_code (suc (suc zero)) kind e = let is : Member ≡ kind = cc in ap code_of 
 kind_code (suc (suc (suc zero))) kind e = let is : Time ≡ kind = cc in ap code_of (sym is)
 kind_code (suc (suc (suc (suc zero)))) kind e = let is : Occult ≡ kind = cc in ap code_of (sym is)
 kind_code (suc (suc (suc (suc (suc zero))))) kind e = let is : Purge ≡ kind = cc in ap code_of (sym is)
-kind_code (suc (suc (suc (suc (suc (suc n)))))) kind e = absurd cc
+kind_code (suc (suc (suc (suc (suc (suc zero)))))) kind e = let is : ClueOccult ≡ kind = cc in ap code_of (sym is)
+kind_code (suc (suc (suc (suc (suc (suc (suc n))))))) kind e = absurd cc
 
 -- a kind that is known has that number
 pub kind_takes : (n : ℕ) (kind : Kind) → known_kind n ≡ Ok kind → code_of kind ≡ n
@@ -124,3 +125,4 @@ kind_again Member = refl
 kind_again Time = refl
 kind_again Occult = refl
 kind_again Purge = refl
+kind_again ClueOccult = refl

@@ -2,8 +2,8 @@
 use Rattle.std.proofs.Common.{◌≡◌, ◌⊎◌, ℕ, ◌&&◌, ◌||◌, Bool, true, false, cond, eqb, leb, inl, inr, refl, sym, ap, ◌∙◌}
 use Rattle.std.proofs.lemmas.Bool.{eqb-true}
 use Rattle.journal_record.specs.declared.header.Kind.{Kind}
-use Rattle.journal_record.specs.declared.header.Kind.TheVariants.{Genesis, Content, Member, Time, Occult, Purge}
-use Rattle.journal_record.specs.Rules.{version_of, is_version, version_ok, carries_a, carries_len}
+use Rattle.journal_record.specs.declared.header.Kind.TheVariants.{Genesis, Content, Member, Time, Occult, Purge, ClueOccult}
+use Rattle.journal_record.specs.Rules.{version_of, is_version, version_ok, is_kind_in, carries_a, carries_len}
 
 -- a test is true or false
 pub bool_cases : (b : Bool) → (b ≡ true) ⊎ (b ≡ false)
@@ -30,6 +30,10 @@ one_less true false = refl
 one_less false true = refl
 one_less false false = refl
 
+one_least : (b : Bool) → leb 1 (one_of b) ≡ true
+one_least true = refl
+one_least false = refl
+
 one_both : (p q : Bool) → leb (one_of (p && true)) 1 ≡ true → leb (one_of (true && q)) 1 ≡ true → one_of (p && q) ≡ 1
 one_both true true x y = refl
 one_both true false x y = absurd cc
@@ -43,6 +47,7 @@ version_known Member a len = refl
 version_known Time a len = refl
 version_known Occult a len = refl
 version_known Purge a len = refl
+version_known ClueOccult a len = refl
 
 -- .. and carries what goes by the kind
 pub version_carries_a : (kind : Kind) (a len : ℕ) → carries_a (version_of kind a len) kind a ≡ true
@@ -52,6 +57,7 @@ version_carries_a Member a len = refl
 version_carries_a Time a len = refl
 version_carries_a Occult a len = refl
 version_carries_a Purge a len = refl
+version_carries_a ClueOccult a len = refl
 
 pub version_carries_len : (kind : Kind) (a len : ℕ) → carries_len (version_of kind a len) kind len ≡ true
 version_carries_len Genesis a len = refl
@@ -60,6 +66,17 @@ version_carries_len Member a len = refl
 version_carries_len Time a len = refl
 version_carries_len Occult a len = refl
 version_carries_len Purge a len = refl
+version_carries_len ClueOccult a len = refl
+
+-- .. and has its kind
+pub version_has_kind : (kind : Kind) (a len : ℕ) → is_kind_in (version_of kind a len) kind ≡ true
+version_has_kind Genesis a len = refl
+version_has_kind Content a len = one_least (eqb a 0 && leb len 65_536)
+version_has_kind Member a len = refl
+version_has_kind Time a len = refl
+version_has_kind Occult a len = refl
+version_has_kind Purge a len = refl
+version_has_kind ClueOccult a len = refl
 
 -- fields that the first version carries have it
 first_is : (kind : Kind) (a len : ℕ) → carries_a 1 kind a ≡ true → carries_len 1 kind len ≡ true → version_of kind a len ≡ 1
@@ -69,6 +86,7 @@ first_is Member a len x y = refl
 first_is Time a len x y = refl
 first_is Occult a len x y = refl
 first_is Purge a len x y = refl
+first_is ClueOccult a len x y = absurd cc
 
 pub first_own : (version : ℕ) (kind : Kind) (a len : ℕ) → eqb version 1 ≡ true → carries_a version kind a ≡ true → carries_len version kind len ≡ true → version_ok version kind a len ≡ true
 first_own version kind a len first x y =

@@ -3,7 +3,7 @@ use Rattle.std.specs.Prelude.{◌≡◌, ℕ, ◌^◌, ◌<◌, List, [], ◌∷
 use Rattle.std.specs.Int.{w32, w64, to_be_bytes}
 use Rattle.journal_record.specs.declared.header.Header.{Header}
 use Rattle.journal_record.specs.declared.header.Kind.{Kind}
-use Rattle.journal_record.specs.declared.header.Kind.TheVariants.{Genesis, Content, Member, Time, Occult, Purge}
+use Rattle.journal_record.specs.declared.header.Kind.TheVariants.{Genesis, Content, Member, Time, Occult, Purge, ClueOccult}
 
 -- the number that stands for a kind in a header
 abbrev pub code_of : Kind → ℕ
@@ -13,6 +13,7 @@ code_of Member = 2
 code_of Time = 3
 code_of Occult = 4
 code_of Purge = 5
+code_of ClueOccult = 6
 
 -- the 174 bytes of a header: its fields one after the other
 unfoldable pub spelling : Header → List ℕ

@@ -10,7 +10,7 @@ use Rattle.journal_record.specs.declared.reading.Front.{Front}
 use Rattle.journal_record.specs.declared.reading.ClueFields.{ClueFields}
 use Rattle.journal_record.specs.declared.reading.OwnFields.{OwnFields}
 use Rattle.journal_record.specs.declared.reading.Parts.{Parts}
-use Rattle.journal_record.specs.Rules.{kind_of, is_version, version_of, carries_a, carries_len, jsn_ok, member_ok, clue_ok, clue_ord_ok, clue_prev_ok, a_ok, b_ok, content_len_ok}
+use Rattle.journal_record.specs.Rules.{kind_of, is_version, is_kind_in, link_ok, version_of, carries_a, carries_len, jsn_ok, member_ok, clue_ok, clue_ord_ok, clue_prev_ok, a_ok, b_ok, content_len_ok}
 
 -- a version that is known, or the break that tells another
 abbrev pub known_version : ℕ → Result (Unit {0}) Bad
@@ -19,6 +19,10 @@ known_version version = if is_version version then Ok tt else Err (NewerFormat v
 -- the kind that a number stands for, or the break that tells another
 abbrev pub known_kind : ℕ → Result Kind Bad
 known_kind code = ok_or (kind_of code) (BadKind code)
+
+-- the version has this kind, or the break that tells another
+abbrev pub kind_in : ℕ → Kind → ℕ → Result (Unit {0}) Bad
+kind_in version kind code = if is_kind_in version kind then Ok tt else Err (BadKind code)
 
 -- Where the version is the second: it is the header's own, by fields that stand further behind. What is read is let go of, but
 -- for where it ends.
@@ -38,6 +42,7 @@ layout_at l = do
   _ ← known_version version.0
   code ← number_at w8 version.1
   kind ← known_kind code.0
+  _ ← kind_in version.0 kind code.0
   carried_at version.0 kind code.1
 
 -- version, kind, number and member, each judged as it is met
@@ -72,6 +77,7 @@ own_at version kind jsn l = do
   b ← number_at w64 a.1
   _ ← check (b_ok kind b.0) 66
   link ← digest_at b.1
+  _ ← check (link_ok kind link.0) 74
   Ok (record { a = a.0; b = b.0; link = link.0 }, link.1)
 
 -- the content's length, and the digests of content and who

@@ -24,6 +24,10 @@ member_request_digest_of id number key = sha256 (byte_of tag.MemberRequest ∷ (
 abbrev pub occult_request_digest_of : List ℕ → ℕ → List ℕ → List ℕ
 occult_request_digest_of id target leaf = sha256 (byte_of tag.OccultRequest ∷ (id ++ to_be_bytes w64 target ++ leaf))
 
+-- the digest of a request to occult all records of a clue: the ledger's identity, the clue's digest, and how many they are
+abbrev pub clue_occult_request_digest_of : List ℕ → List ℕ → ℕ → List ℕ
+clue_occult_request_digest_of id clue count = sha256 (byte_of tag.ClueOccultRequest ∷ (id ++ clue ++ to_be_bytes w32 count))
+
 -- the digest of a request to purge the journals below a point: the ledger's identity, the point, and the root of those
 -- journals
 abbrev pub purge_request_digest_of : List ℕ → ℕ → List ℕ → List ℕ

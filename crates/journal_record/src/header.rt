@@ -24,6 +24,8 @@ pub enum Kind {
     Occult,
     /// Code 5: the journals in front of a point are given up.
     Purge,
+    /// Code 6: the contents of all records of a clue so far are hidden.
+    ClueOccult,
 }
 
 impl Kind {
@@ -40,6 +42,7 @@ impl Kind {
             Kind::Time => 3,
             Kind::Occult => 4,
             Kind::Purge => 5,
+            Kind::ClueOccult => 6,
         }
     }
 }
@@ -55,6 +58,7 @@ impl Kind {
 /// | time | the notary's index | the notary's time | the salt |
 /// | occult | the hidden journal's number | 0 | that journal's leaf digest |
 /// | purge | the point: the first journal that stays | 0 | digest of the pseudo-genesis |
+/// | occult by clue | how many records of the clue stand in front | 0 | the clue's digest |
 ///
 /// The content of a genesis journal is the operator's key and then the regulator's.
 #[derive(Clone, Copy, Debug, PartialEq, Eq)]
@@ -94,9 +98,9 @@ impl Header {
     ghost use Rattle.journal_record.specs.Rules.{IsHeader};
 
     /// Reads a header from its 174 bytes. The first break in the order of the bytes is told: `NewerFormat` for a
-    /// version other than 1, `BadKind` for a kind above 5, `BadFixedField` with its offset for a field that breaks
-    /// its rule, `Short` with the input's length where a field isn't whole, and at last `Trailing`. Links and
-    /// digests may be any.
+    /// version other than 1 and 2, `BadKind` for a kind above 6, and in version 1 above 5, `BadFixedField` with offset 0 where
+    /// the version isn't the header's own, `BadFixedField` with its offset for a field that breaks its rule, `Short` with the input's length where a field isn't whole, and at last `Trailing`. Digests
+    /// may be any, and so may links but that of an occult by clue, which isn't zero.
     pub fn decode(bytes: &[u8]) -> Result<Header, Bad>
         // Which answer it is, and at a break which break and where.
         ensures exact { result ≡ header_of bytes.now }

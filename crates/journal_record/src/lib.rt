@@ -22,8 +22,8 @@ pub use member::Member;
 pub use reading::{is_inverse_of_encoding, take_header};
 pub use record::{Body, Record, is_inverse_of_dumping, take_record};
 pub use request::{
-    clue_digest, member_request_digest, name_digest, occult_request_digest, purge_request_digest,
-    request_digest,
+    clue_digest, clue_occult_request_digest, member_request_digest, name_digest,
+    occult_request_digest, purge_request_digest, request_digest,
 };
 pub use rules::{NOTARY_LIMIT, version_of};
 pub use stamp::Stamp;

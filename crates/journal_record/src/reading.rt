@@ -8,7 +8,7 @@ ghost use Rattle.journal_record.specs.Reading as reading;
 
 use crate::rules::{
     a_ok, b_ok, carries_a, carries_len, clue_ok, clue_ord_ok, clue_prev_ok, content_len_ok,
-    is_version, jsn_ok, member_ok, version_of,
+    is_kind_in, is_version, jsn_ok, link_ok, member_ok, version_of,
 };
 use crate::whole::{kind_of, read_whole};
 use crate::{Header, Kind};
@@ -89,6 +89,7 @@ fn look_at_layout(reader: &mut FieldReader) -> Result<(), Bad>
     known_version(version)?;
     let code = reader.take_u8()?;
     let kind = known_kind(code)?;
+    kind_in(version, kind, code)?;
     look_behind(reader, version, kind)
 }
 
@@ -183,6 +184,7 @@ fn take_own(reader: &mut FieldReader, version: u8, kind: Kind, jsn: u64) -> Resu
     let b = reader.take_u64()?;
     check_field(b_ok(kind, b), 66)?;
     let link = reader.take_digest()?;
+    check_field(link_ok(kind, &link), 74)?;
     Ok(OwnFields { a, b, link })
 }
 
@@ -212,6 +214,16 @@ fn known_version(version: u8) -> Result<(), Bad>
         Ok(())
     } else {
         Err(Bad::NewerFormat { found: version })
+    }
+}
+
+fn kind_in(version: u8, kind: Kind, code: u8) -> Result<(), Bad>
+    ensures { result ≡ reading.kind_in version kind code }
+{
+    if is_kind_in(version, kind) {
+        Ok(())
+    } else {
+        Err(Bad::BadKind { found: code })
     }
 }
 

@@ -4,7 +4,7 @@ ghost use Rattle.std.specs.Prelude.{◌≡◌, ◌∷◌, ◌++◌};
 ghost use Rattle.std.specs.Int.{w64, to_be_bytes};
 ghost use Rattle.sha2.specs.Sha256.{sha256};
 ghost use Rattle.ledger_bytes.specs.Tags.{byte_of};
-ghost use Rattle.journal_record.specs.Request.{request_digest_of, member_request_digest_of, occult_request_digest_of, purge_request_digest_of, clue_digest_of, name_digest_of};
+ghost use Rattle.journal_record.specs.Request.{request_digest_of, member_request_digest_of, occult_request_digest_of, clue_occult_request_digest_of, purge_request_digest_of, clue_digest_of, name_digest_of};
 
 use crate::digests::tagged_digest;
 use crate::filling::Filling;
@@ -57,6 +57,19 @@ pub fn occult_request_digest(id: &Digest, target: u64, leaf: &Digest) -> Digest
     ensures { result.0 ≡ occult_request_digest_of id.now.0 target leaf.now.0 }
 {
     placed_digest(Tag::OccultRequest, id, target, leaf)
+}
+
+/// The message that members 0 and 1 prove to occult all records of a clue: SHA-256 of the byte 0D, the ledger's identity (32
+/// bytes), the clue's digest (32 bytes) and the number of these records (4 bytes, big-endian).
+pub fn clue_occult_request_digest(id: &Digest, clue: &Digest, count: u32) -> Digest
+    ensures { result.0 ≡ clue_occult_request_digest_of id.now.0 clue.now.0 count }
+{
+    let mut message = Filling::new();
+    message.put(&[Tag::ClueOccultRequest.byte()]);
+    message.put(&id.0);
+    message.put(&clue.0);
+    message.put(&count.to_be_bytes());
+    message.digest()
 }
 
 /// The message that members prove to purge the journals below a point: SHA-256 of the byte 05, the ledger's identity (32

@@ -44,6 +44,7 @@ pub fn version_of(kind: Kind, a: u64, content_len: u32) -> u8
                 SECOND_VERSION
             }
         }
+        Kind::ClueOccult => SECOND_VERSION,
         _ => FIRST_VERSION,
     }
 }
@@ -129,6 +130,7 @@ pub(crate) fn a_ok(kind: Kind, jsn: u64, a: u64) -> bool
         Kind::Time => a < NOTARY_LIMIT,
         Kind::Occult => a < jsn,
         Kind::Purge => 0 < a && a < jsn,
+        Kind::ClueOccult => 0 < a && a <= u32::MAX as u64,
     }
 }
 
@@ -151,6 +153,21 @@ pub(crate) fn content_len_ok(kind: Kind, content_len: u32) -> bool
     }
 }
 
+pub(crate) fn is_kind_in(version: u8, kind: Kind) -> bool
+    ensures { result ≡ rule.is_kind_in version kind }
+{
+    version_of(kind, 0, 0) <= version
+}
+
+pub(crate) fn link_ok(kind: Kind, link: &Digest) -> bool
+    ensures { result ≡ rule.link_ok kind link.now }
+{
+    match kind {
+        Kind::ClueOccult => !is_no_clue(link),
+        _ => true,
+    }
+}
+
 /// Whether every field keeps its rule.
 pub(crate) fn keeps_rules(header: &Header) -> bool
     ensures { IsTrue result ↔ rule.IsHeader header.now }
@@ -165,6 +182,7 @@ pub(crate) fn keeps_rules(header: &Header) -> bool
         clue_prev,
         a,
         b,
+        link,
         content_len,
         ..
     } = *header;
@@ -176,5 +194,6 @@ pub(crate) fn keeps_rules(header: &Header) -> bool
         && clue_prev_ok(jsn, clue_ord, clue_prev)
         && a_ok(kind, jsn, a)
         && b_ok(kind, b)
+        && link_ok(kind, &link)
         && content_len_ok(kind, content_len)
 }

@@ -50,6 +50,7 @@ pub(crate) fn kind_of(code: u8) -> Option<Kind>
         3 => Some(Kind::Time),
         4 => Some(Kind::Occult),
         5 => Some(Kind::Purge),
+        6 => Some(Kind::ClueOccult),
         _ => None,
     }
 }

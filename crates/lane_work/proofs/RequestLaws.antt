@@ -5,13 +5,13 @@ use Rattle.ledger_bytes.specs.Digests.{digest}
 use Rattle.ledger_bytes.specs.declared.digest.Digest.{Digest}
 use Rattle.journal_record.specs.Approval.{who_of}
 use Rattle.journal_record.specs.Entry.{content_digest_of, who_digest_of}
-use Rattle.journal_record.specs.Request.{request_digest_of, member_request_digest_of, occult_request_digest_of, purge_request_digest_of}
+use Rattle.journal_record.specs.Request.{request_digest_of, member_request_digest_of, occult_request_digest_of, clue_occult_request_digest_of, purge_request_digest_of, clue_digest_of}
 use Rattle.journal_record.specs.declared.approval.Approval.{Approval}
 use Rattle.script_lines.specs.declared.said.SaidApproval.{SaidApproval}
-use Rattle.ledger_model.specs.Appends.{approval_of, append_with, request_with, member_job, occult_job, purge_job}
+use Rattle.ledger_model.specs.Appends.{approval_of, append_with, request_with, member_job, occult_job, clue_occult_job, purge_job}
 use Rattle.ledger_model.specs.Scheme.{Scheme}
 use Rattle.ledger_model.specs.declared.job.Job.{Job}
-use Rattle.ledger_model.specs.declared.job.Job.TheVariants.{Append, NewMember, Occult, Purge}
+use Rattle.ledger_model.specs.declared.job.Job.TheVariants.{Append, NewMember, Occult, OccultClue, Purge}
 
 -- a digest is that of its bytes
 some_digest : (o : Option Digest) → o ≡ option_map digest (option_map (λ (d : Digest). d.0) o)
@@ -48,6 +48,15 @@ pub occult_is : (scheme : Scheme) (id : List ℕ) (target : ℕ) (leaf : Digest)
 unfolding occult_job
 occult_is scheme id target leaf given request shown r s =
     ap (Occult target leaf) s ∙ ap (λ x. Occult target leaf (map (λ (by : SaidApproval). approval_of scheme by.member x by.proof) given)) r
+
+pub clue_occult_is : (scheme : Scheme) (id name : List ℕ) (clue : Digest) (count : ℕ) (given : List SaidApproval) (request : List ℕ) (shown : List Approval)
+    → clue.0 ≡ clue_digest_of name → request ≡ clue_occult_request_digest_of id clue.0 count → shown ≡ map (λ (by : SaidApproval). approval_of scheme by.member request by.proof) given
+    → OccultClue clue count shown ≡ clue_occult_job scheme id name count given
+unfolding clue_occult_job
+clue_occult_is scheme id name clue count given request shown c r s =
+    let approved : List ℕ → List Approval = λ x. map (λ (by : SaidApproval). approval_of scheme by.member x by.proof) given in
+    ap (OccultClue clue count) s ∙ ap (λ x. OccultClue clue count (approved x)) r
+    ∙ ap (λ x. OccultClue (digest x) count (approved (clue_occult_request_digest_of id x count))) c
 
 pub purge_is : (scheme : Scheme) (id : List ℕ) (p : ℕ) (told : Digest) (given : List SaidApproval) (request : List ℕ) (shown : List Approval)
     → request ≡ purge_request_digest_of id p told.0 → shown ≡ map (λ (by : SaidApproval). approval_of scheme by.member request by.proof) given

@@ -6,7 +6,7 @@ ghost use Rattle.script_lines.specs.Limits.{fits_line};
 ghost use Rattle.ledger_model.specs.Fitting.{fits_job};
 ghost use Rattle.ledger_model.specs.Rules.{job_for, job_of};
 
-use crate::requests::{member_job, occult_job, purge_job, record_job};
+use crate::requests::{clue_occult_job, member_job, occult_job, purge_job, record_job};
 use journal_record::clue_digest;
 use ledger_book::{Job, Prepared};
 use ledger_bytes::{Digest, NoMemory};
@@ -69,6 +69,14 @@ fn prepare_line<V: Verifier>(
             leaf,
             given,
         } => occult_job(alloc, verifier, id, target, leaf, given.as_slice())?,
+        Line::OccultClue { name, count, given } => clue_occult_job(
+            alloc,
+            verifier,
+            id,
+            name.as_slice(),
+            count,
+            given.as_slice(),
+        )?,
         Line::Purge { point, root, given } => {
             purge_job(alloc, verifier, id, point, root, given.as_slice())?
         }

@@ -1,4 +1,4 @@
-//! The jobs of lines that members prove: records, new members, occults and purges.
+//! The jobs of lines that members prove: records, new members, occults, of one record or of a clue's, and purges.
 
 ghost use Rattle.std.specs.Prelude.{◌≡◌, ◌≤◌, length, map, true, IfOk};
 ghost use Rattle.ledger_bytes.specs.declared.limits.TheConstants.{CONTENT_LIMIT, PROOF_LIMIT};
@@ -7,8 +7,8 @@ ghost use Rattle.ledger_model.specs.Appends as appends;
 ghost use Rattle.ledger_model.specs.Fitting.{fits_job};
 
 use journal_record::{
-    Approval, approval_digest, content_digest, member_request_digest, occult_request_digest,
-    purge_request_digest, request_digest,
+    Approval, approval_digest, clue_digest, clue_occult_request_digest, content_digest,
+    member_request_digest, occult_request_digest, purge_request_digest, request_digest,
 };
 use ledger_book::Job;
 use ledger_bytes::{Bytes, Digest, Items, NoMemory};
@@ -98,6 +98,31 @@ pub(crate) fn occult_job<V: Verifier>(
     Ok(Job::Occult {
         target,
         leaf,
+        given: Items::of(shown),
+    })
+}
+
+/// The job of an occult of all records of the clue with this name, of which there are `count`, on the ledger with this id, with
+/// the keys that the proofs of its approvals show to this verifier.
+pub(crate) fn clue_occult_job<V: Verifier>(
+    alloc: Global,
+    verifier: &V,
+    id: &Digest,
+    name: &[u8],
+    count: u32,
+    given: &[SaidApproval],
+) -> Result<Job, NoMemory>
+    requires { fits_approvals given.now ≡ true }
+    ensures job { IfOk result (λ job. job ≡ appends.clue_occult_job
+        (V.shows verifier.now) id.now.0 name.now count given.now) }
+    ensures fits { IfOk result (λ job. fits_job job ≡ true) }
+{
+    let clue = clue_digest(name);
+    let request = clue_occult_request_digest(id, &clue, count);
+    let shown = shown_approvals(alloc, verifier, &request, given)?;
+    Ok(Job::OccultClue {
+        clue,
+        count,
         given: Items::of(shown),
     })
 }

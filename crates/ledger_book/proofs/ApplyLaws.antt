@@ -3,7 +3,7 @@ use Rattle.std.specs.Prelude.{All, nat_le, Result, Ok, Err, OnOk, IfOk}
 use Rattle.std.specs.List.{list_all}
 use Rattle.std.proofs.lemmas.Bool.{and_parts, leb-true}
 use Rattle.std.proofs.lemmas.List.Elements.{All-nil, All-cons}
-use Rattle.std.proofs.Common.{false, true, refl, ◌-◌, ◌<◌, ◌≡◌, ℕ, ◌≤◌, List, [], ◌∷◌, length, Option, Some, None, ap, sym, subst, ◌∙◌}
+use Rattle.std.proofs.Common.{◌&&◌, false, true, refl, ◌-◌, ◌<◌, ◌≡◌, ℕ, ◌≤◌, List, [], ◌∷◌, length, Option, Some, None, ap, sym, subst, ◌∙◌}
 use Rattle.sha2.specs.Sha256.{sha256}
 use Rattle.tree_model.specs.Tree.{leaf}
 use Rattle.ledger_bytes.specs.Digests.{digest}
@@ -17,7 +17,7 @@ use Rattle.journal_record.specs.declared.header.Header.{Header}
 use Rattle.journal_record.specs.declared.header.Kind.{Kind}
 use Rattle.journal_record.specs.declared.header.Kind.TheVariants as kind
 use Rattle.journal_record.specs.declared.stamp.Stamp.{Stamp}
-use Rattle.ledger_model.specs.Appends.{append_header, append_journal, member_header, member_journal, occult_header, occult_journal}
+use Rattle.ledger_model.specs.Appends.{append_header, append_journal, member_header, member_journal, occult_header, occult_journal, clue_occult_header, clue_occult_journal}
 use Rattle.ledger_model.specs.Fitting.{fits_job}
 use Rattle.ledger_model.specs.Clues.{next_ordinal, last_journal}
 use Rattle.ledger_model.specs.History.{History, size, leaf_digest, is_purge}
@@ -34,13 +34,13 @@ use Rattle.ledger_model.specs.Numbers.{repeated, unless_repeated}
 use Rattle.ledger_model.specs.Outcomes as outcomes
 use Rattle.ledger_model.specs.Outcomes.{placed_journal, with_waiting, after_judgement, placed_as, placed_with, accepted_outcome, judged_outcome}
 use Rattle.ledger_model.specs.declared.job.Job.{Job}
-use Rattle.ledger_model.specs.declared.job.Job.TheVariants.{Append, NewMember, Anchor, Occult}
+use Rattle.ledger_model.specs.declared.job.Job.TheVariants.{Append, NewMember, Anchor, Occult, OccultClue}
 use Rattle.ledger_model.specs.declared.limits.Limits.{Limits}
 use Rattle.ledger_model.specs.declared.outcome.Outcome.{Outcome}
 use Rattle.ledger_model.specs.declared.outcome.Outcome.TheVariants.{Refused, Placed, Again, Reading}
 use Rattle.ledger_model.specs.declared.outcome.PlacedJournal.{PlacedJournal}
 use Rattle.ledger_model.specs.declared.outcome.Query.{Query}
-use Rattle.ledger_model.proofs.AcceptedLaws.{record_next, member_next, occult_next, time_next}
+use Rattle.ledger_model.proofs.AcceptedLaws.{record_next, member_next, occult_next, clue_occult_next, time_next}
 use Rattle.ledger_book.specs.Books.{Kept, Stands, Serves}
 use Rattle.ledger_book.specs.Steps.{Anchors, Applies, IsSame, MayPlace, IsLeafOf, HasOperatorRoom, PlacesNothing}
 
@@ -148,6 +148,15 @@ module _ (h : History) (target : ℕ) (leaf : Digest) (given : List Approval) (h
   pub occult_may : (limits : Limits) (k : Kept) → AreWithin limits → own_refusal limits h (Occult target leaf given) ≡ None → Stands k h → (occult_journal (size h) target leaf given).header ≡ header → MayPlace h header
   occult_may limits k within none s is = subst (MayPlace h) is (occult_next limits within h target leaf given none s.lawful)
 
+-- an occult by clue at its place
+module _ (h : History) (clue : Digest) (count : ℕ) (given : List Approval) (header : Header) where
+  pub clue_occult_kind : (clue_occult_journal (size h) clue count given).header ≡ header → is_member header.kind ≡ false
+  unfolding clue_occult_header
+  clue_occult_kind is = ap (λ (x : Header). is_member x.kind) (sym is)
+
+  pub clue_occult_may : (limits : Limits) (k : Kept) → AreWithin limits → own_refusal limits h (OccultClue clue count given) ≡ None → Stands k h → (clue_occult_journal (size h) clue count given).header ≡ header → MayPlace h header
+  clue_occult_may limits k within none s is = subst (MayPlace h) is (clue_occult_next limits within h clue count given none s.lawful)
+
 -- the approvals of an occult that fits
 pub proofs_short : (given : List Approval) → list_all (λ (by : Approval). nat_le (length by.proof) PROOF_LIMIT) given ≡ true → All (λ (by : Approval). length by.proof ≤ PROOF_LIMIT) given
 proofs_short [] all = All-nil (λ (by : Approval). length by.proof ≤ PROOF_LIMIT)
@@ -155,10 +164,16 @@ proofs_short (g ∷ gs) all =
     let both = and_parts (nat_le (length g.proof) PROOF_LIMIT) (list_all (λ (by : Approval). nat_le (length by.proof) PROOF_LIMIT) gs) all in
     All-cons (λ (by : Approval). length by.proof ≤ PROOF_LIMIT) g gs (leb-true (length g.proof) PROOF_LIMIT both.0) (proofs_short gs both.1)
 
-pub occult_fits : (target : ℕ) (leaf : Digest) (given : List Approval) → fits_job (Occult target leaf given) ≡ true → (length given ≤ APPROVAL_LIMIT) × All (λ (by : Approval). length by.proof ≤ PROOF_LIMIT) given
-occult_fits target leaf given fits =
+pub approvals_fit : (given : List Approval) → (nat_le (length given) APPROVAL_LIMIT && list_all (λ (by : Approval). nat_le (length by.proof) PROOF_LIMIT) given) ≡ true → (length given ≤ APPROVAL_LIMIT) × All (λ (by : Approval). length by.proof ≤ PROOF_LIMIT) given
+approvals_fit given fits =
     let both = and_parts (nat_le (length given) APPROVAL_LIMIT) (list_all (λ (by : Approval). nat_le (length by.proof) PROOF_LIMIT) given) fits in
     (leb-true (length given) APPROVAL_LIMIT both.0, proofs_short given both.1)
+
+pub clue_occult_fits : (clue : Digest) (count : ℕ) (given : List Approval) → fits_job (OccultClue clue count given) ≡ true → (length given ≤ APPROVAL_LIMIT) × All (λ (by : Approval). length by.proof ≤ PROOF_LIMIT) given
+clue_occult_fits clue count given fits = approvals_fit given fits
+
+pub occult_fits : (target : ℕ) (leaf : Digest) (given : List Approval) → fits_job (Occult target leaf given) ≡ true → (length given ≤ APPROVAL_LIMIT) × All (λ (by : Approval). length by.proof ≤ PROOF_LIMIT) given
+occult_fits target leaf given fits = approvals_fit given fits
 
 -- a time journal at its place
 module _ (h : History) (stamp : Stamp) (header : Header) where
@@ -192,6 +207,7 @@ gathers_no_purge kind.Content is = refl
 gathers_no_purge kind.Member is = refl
 gathers_no_purge kind.Time is = refl
 gathers_no_purge kind.Occult is = refl
+gathers_no_purge kind.ClueOccult is = refl
 gathers_no_purge kind.Purge is = sym is
 
 pub time_no_purge : (jsn : ℕ) (stamp : Stamp) (header : Header) → header ≡ time_header jsn stamp → is_purge header.kind ≡ false
@@ -201,6 +217,10 @@ time_no_purge jsn stamp header is = ap (λ (x : Header). is_purge x.kind) is
 pub occult_no_purge : (jsn target : ℕ) (leaf : Digest) (given : List Approval) (header : Header) → header ≡ occult_header jsn target leaf given → is_purge header.kind ≡ false
 unfolding occult_header
 occult_no_purge jsn target leaf given header is = ap (λ (x : Header). is_purge x.kind) is
+
+pub clue_occult_no_purge : (jsn : ℕ) (clue : Digest) (count : ℕ) (given : List Approval) (header : Header) → header ≡ clue_occult_header jsn clue count given → is_purge header.kind ≡ false
+unfolding clue_occult_header
+clue_occult_no_purge jsn clue count given header is = ap (λ (x : Header). is_purge x.kind) is
 
 pub member_gathers : (jsn number : ℕ) (key : Digest) (by : Approval) (header : Header) → header ≡ member_header jsn number key by → gathers header.kind ≡ true
 unfolding member_header

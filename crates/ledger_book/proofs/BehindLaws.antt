@@ -1,8 +1,8 @@
 -- Lemmas on a book of what stands behind a base.
-use Rattle.std.specs.Prelude.{All, IsTrue, filter, max, nat_lt}
+use Rattle.std.specs.Prelude.{All, IsTrue, filter, max, nat_le, nat_lt, slice_get}
 use Rattle.std.specs.List.{list_any}
 use Rattle.std.specs.Option.{is_some}
-use Rattle.std.proofs.Common.{◌≡◌, ◌≢◌, ℕ, ◌+◌, ◌<◌, ◌≤◌, ◌&&◌, ◌||◌, ◌==◌, Bool, true, false, cond, not, List, [], ◌∷◌, ◌++◌, Option, Some, None, length, map, refl, sym, subst, ap, ◌∙◌, arith, append-nil, append_assoc, length-append}
+use Rattle.std.proofs.Common.{◌≡◌, ◌≢◌, ℕ, ◌+◌, ◌-◌, ◌<◌, ◌≤◌, ◌&&◌, ◌||◌, ◌==◌, Bool, true, false, cond, not, List, [], ◌∷◌, ◌++◌, Option, Some, None, length, map, refl, sym, subst, ap, ◌∙◌, arith, append-nil, append_assoc, length-append}
 use Rattle.std.proofs.lemmas.Bool.{and_parts, eqb-true, eq-eqb, ltb-true, ltb-false, true≢false}
 use Rattle.std.proofs.lemmas.List.{map-append}
 use Rattle.std.proofs.lemmas.List.Elements.{All-nil, All-cons}
@@ -16,26 +16,28 @@ use Rattle.journal_record.specs.Rules.{a_ok, is_no_clue, clue_ok, clue_ord_ok}
 use Rattle.journal_record.specs.declared.header.Header.{Header}
 use Rattle.journal_record.specs.declared.header.Kind.{Kind}
 use Rattle.journal_record.specs.declared.header.Kind.TheVariants as kind
-use Rattle.clue_index.specs.Added.{Added, Mark, with_mark}
+use Rattle.clue_index.specs.Added.{Added, Mark, with_mark, trail_of}
 use Rattle.clue_index.specs.Index as index
+use Rattle.clue_index.specs.Trail.{kept_from}
 use Rattle.merkle_batch.specs.Rows.{Levels, StandsFor}
 use Rattle.merkle_batch.specs.Over.{StandsOver}
 use Rattle.ledger_model.specs.Bases.{clue_mark_of}
-use Rattle.ledger_model.specs.Clues.{has_clue}
+use Rattle.ledger_model.specs.Clues.{has_clue, numbers_of}
+use Rattle.ledger_model.proofs.LawfulLaws.{AreFrom}
 use Rattle.ledger_model.specs.History.{leaf_digest, is_purge, greatest_point}
 use Rattle.ledger_model.specs.Members.{members, founders, is_member, member_of, admitted_members}
-use Rattle.ledger_model.specs.Targets.{is_occult}
+use Rattle.ledger_model.specs.Targets.{is_occult, names, is_hidden_by}
 use Rattle.ledger_model.proofs.PlaceLaws.{founders_kept, admitted_more, admitted_same}
 use Rattle.pseudo_genesis.specs.declared.base.Base.{Base}
-use Rattle.ledger_model.specs.Behind.{IsNextBehind, IsOwnBehind, AreBehind, first_of, count_behind, clues_behind, is_purge_to, next_number, names}
+use Rattle.ledger_model.specs.Behind.{IsNextBehind, IsOwnBehind, AreBehind, first_of, count_behind, clues_behind, is_purge_to, next_number}
 use Rattle.ledger_book.specs.Books.{Kept}
 use Rattle.ledger_book.specs.Fronts.{namer_in, AddsFront}
-use Rattle.ledger_book.specs.Hiders.{hider_in, with_hider_of}
+use Rattle.ledger_book.specs.Hiders.{hider_in, with_hider_of, AreClued}
 use Rattle.ledger_book.specs.Reading.{HasLeaves, StandsBehind}
 use Rattle.ledger_book.specs.Steps.{IsAsBefore, point_with, with_clue_of, reached_with}
-use Rattle.ledger_book.proofs.HiderLaws.{hider_other, hidden_now}
+use Rattle.ledger_book.proofs.HiderLaws.{AreOfClue, or_false, or_true, hidden_next}
 use Rattle.ledger_book.proofs.OwnLaws.{own_more}
-use Rattle.ledger_book.proofs.ClueLaws.{filter_takes, filter_leaves}
+use Rattle.ledger_book.proofs.ClueLaws.{filter_takes, filter_leaves, numbers_same}
 use Rattle.ledger_book.proofs.TimeLaws.{points_more}
 
 -- more room for the tree changes nothing
@@ -110,37 +112,30 @@ or_parts : (v w : Bool) → (v || w) ≡ false → (v ≡ false) × (w ≡ false
 or_parts true w none = absurd (true≢false none)
 or_parts false w none = (refl, none)
 
-or_false : (v : Bool) → (v || false) ≡ v
-or_false true = refl
-or_false false = refl
+-- the journals have the numbers from the first on
+pub behind_from : (start : Option Base) (before es : List Entry) → AreBehind start before es → AreFrom (next_number start before) es
+behind_from start before [] are = tt
+behind_from start before (e ∷ es) are =
+    (are.0.jsn, are.0.layout, subst (λ n. AreFrom n es) (let same : next_number start (before ++ e ∷ []) ≡ next_number start before + 1 = omega (arith, length-append before (e ∷ [])) in same) (behind_from start (before ++ e ∷ []) es are.1))
 
-or_true : (v : Bool) → (v || true) ≡ true
-or_true true = refl
-or_true false = refl
+pub from_first : (start : Option Base) (es : List Entry) → AreBehind start [] es → AreFrom (first_of start) es
+from_first start es are = subst (λ n. AreFrom n es) (let same : next_number start [] ≡ first_of start = omega arith in same) (behind_from start [] es are)
 
-hiders_next : (start : Option Base) (numbers : List ℕ) (es : List Entry) (j : Entry) → IsNextBehind start es j.header → 1 ≤ j.header.jsn → first_of start + length numbers ≡ next_number start es
-    → ((n : ℕ) → first_of start ≤ n → is_some (hider_in (first_of start) numbers n) ≡ list_any (names n) es)
-    → (n : ℕ) → first_of start ≤ n → is_some (hider_in (first_of start) (with_hider_of (first_of start) j.header numbers) n) ≡ list_any (names n) (es ++ j ∷ [])
-hiders_next start numbers es j next some all before n le = by_name (names n j) refl ∙ sym (list_any-append (names n) es (j ∷ [])) where
-  before_it : (k : Kind) → is_occult k ≡ true → IsTrue (a_ok k j.header.jsn j.header.a) → j.header.a < j.header.jsn
-  before_it kind.Occult is ok = ltb-true j.header.a j.header.jsn ok
-  before_it kind.Genesis is ok = absurd (true≢false (sym is))
-  before_it kind.Content is ok = absurd (true≢false (sym is))
-  before_it kind.Member is ok = absurd (true≢false (sym is))
-  before_it kind.Time is ok = absurd (true≢false (sym is))
-  before_it kind.Purge is ok = absurd (true≢false (sym is))
+-- the journals of a clue that an index was given behind a base
+pub behind_numbers : (start : Option Base) (es : List Entry) (clue : Digest) → (trail_of (clues_behind start es) clue.0).jsns ≡ numbers_of clue es
+behind_numbers None es clue = numbers_same clue es
+behind_numbers (Some b) es clue = numbers_same clue es
 
-  by_name : (v : Bool) → names n j ≡ v → is_some (hider_in (first_of start) (with_hider_of (first_of start) j.header numbers) n) ≡ (list_any (names n) es || (names n j || false))
-  by_name true named =
-      let parts = and_parts (is_occult j.header.kind) (j.header.a == n) named in
-      let at : j.header.a ≡ n = eqb-true j.header.a n parts.1 in
-      let low : first_of start ≤ j.header.a = omega (arith, at, le) in
-      let high : j.header.a < first_of start + length numbers = omega (arith, before_it j.header.kind parts.0 next.layout.a, next.jsn, all) in
-      ap (λ m. is_some (hider_in (first_of start) (with_hider_of (first_of start) j.header numbers) m)) (sym at)
-      ∙ (hidden_now (first_of start) j.header numbers parts.0 low high some ∙ sym (ap (λ v. list_any (names n) es || (v || false)) named ∙ or_true (list_any (names n) es)))
-  by_name false none =
-      ap is_some (hider_other (first_of start) n j.header numbers le none)
-      ∙ (before n le ∙ sym (ap (λ v. list_any (names n) es || (v || false)) none ∙ or_false (list_any (names n) es)))
+-- .. and those that are kept
+pub kept_behind : (start : Option Base) (es : List Entry) (clues : index.KeptTrails) (clue : Digest) (kept : List ℕ) → index.StandsForTrails clues (clues_behind start es)
+    → ((a : Added) → index.StandsForTrails clues a → kept ≡ kept_from a.floor (trail_of a clue.0)) → kept ≡ filter (λ n. nat_le (first_of start) n) (numbers_of clue es)
+kept_behind start es clues clue kept stands told =
+    told (clues_behind start es) stands
+    ∙ ap (λ f. filter (λ n. nat_le f n) (trail_of (clues_behind start es) clue.0).jsns) (clues_low start es)
+    ∙ ap (filter (λ n. nat_le (first_of start) n)) (behind_numbers start es clue)
+
+clued_behind : (start : Option Base) (es : List Entry) (clues : index.KeptTrails) (x : Header) (clued : List ℕ) → index.StandsForTrails clues (clues_behind start es) → AreClued clues x clued → AreOfClue (first_of start) es x clued
+clued_behind start es clues x clued stands are is = kept_behind start es clues x.link clued stands (are is)
 
 -- the targets in front of the base
 unnamed_front : (floor : ℕ) (old new : List (ℕ × ℕ)) (x : Header) (n : ℕ) → AddsFront kind.Occult floor x old new → n ≢ x.a → namer_in n new ≡ namer_in n old
@@ -163,6 +158,7 @@ fronts_next floor old new es j before no_purge adds n lt = by_kind j.header.kind
   by_kind kind.Content is apart adds = others (ap (namer_in n) adds) (unnamed kind.Content is refl)
   by_kind kind.Member is apart adds = others (ap (namer_in n) adds) (unnamed kind.Member is refl)
   by_kind kind.Time is apart adds = others (ap (namer_in n) adds) (unnamed kind.Time is refl)
+  by_kind kind.ClueOccult is apart adds = others (ap (namer_in n) adds) (unnamed kind.ClueOccult is refl)
   by_kind kind.Purge is apart adds = others (ap (namer_in n) (adds (λ same. true≢false (sym (eq-eqb j.header.a floor same) ∙ apart)))) (unnamed kind.Purge is refl)
   by_kind kind.Occult is apart adds = elim (j.header.a == n) as (λ v. (j.header.a == n) ≡ v → is_some (namer_in n new) ≡ (list_any (names n) es || (names n j || false))) [
     | true ↦ λ e.
@@ -181,6 +177,7 @@ risen start es x kind.Content own = omega arith
 risen start es x kind.Member own = omega arith
 risen start es x kind.Time own = omega arith
 risen start es x kind.Occult own = omega arith
+risen start es x kind.ClueOccult own = omega arith
 risen start es x kind.Purge own = omega (arith, own.above)
 
 -- the members
@@ -212,7 +209,9 @@ pub record IsMore (old new : Kept) (start : Option Base) (es : List Entry) (x : 
   pub reached : new.reached ≡ reached_with x old.floor old.reached
   pub members : length new.members ≡ length old.members + cond (is_member x.kind) 1 0
   pub clues : (a : Added) → clue_ok x.kind x.clue ≡ true → clue_ord_ok x.clue x.clue_ord ≡ true → index.StandsForTrails old.clues a → a.floor ≤ x.jsn → All (λ (m : Mark). m.jsn < x.jsn) a.marks → index.StandsForTrails new.clues (with_clue_of x a)
-  pub hiders : new.hiders ≡ with_hider_of old.floor x old.hiders
+  pub clued : List ℕ
+  pub clued_are : AreClued old.clues x clued
+  pub hiders : new.hiders ≡ with_hider_of old.floor x clued old.hiders
   pub all : old.floor + length old.hiders ≡ old.size
   pub fronts : AddsFront x.kind old.floor x old.fronts new.fronts
   pub headers_are : new.headers ≡ old.headers ++ x ∷ []
@@ -234,8 +233,9 @@ more_here old new start es j some s m = record {
   hiders = λ n le.
       let floored : (first_of start ≡ old.floor) = sym s.floor in
       ap (λ f. is_some (hider_in f new.hiders n)) (m.floor ∙ s.floor)
-      ∙ (ap (λ (l : List ℕ). is_some (hider_in (first_of start) l n)) (m.hiders ∙ ap (λ f. with_hider_of f j.header old.hiders) s.floor)
-      ∙ hiders_next start old.hiders es j m.next (omega (arith, m.next.jsn, s.size_is, some)) (ap (λ f. f + length old.hiders) floored ∙ (m.all ∙ s.size_is)) (subst (λ f. (i : ℕ) → first_of start ≤ i → is_some (hider_in f old.hiders i) ≡ list_any (names i) es) s.floor s.hiders) n le);
+      ∙ (ap (λ (l : List ℕ). is_some (hider_in (first_of start) l n)) (m.hiders ∙ ap (λ f. with_hider_of f j.header m.clued old.hiders) s.floor)
+      ∙ hidden_next (first_of start) old.hiders es j m.clued (from_first start (es ++ j ∷ []) (are_more start [] es j s.are m.next)) (from_first start es s.are) m.next.layout m.next.jsn (omega (arith, m.next.jsn, s.size_is, some)) (ap (λ f. f + length old.hiders) floored ∙ (m.all ∙ s.size_is)) (clued_behind start es old.clues j.header m.clued s.clues m.clued_are)
+      (subst (λ f. (i : ℕ) → first_of start ≤ i → is_some (hider_in f old.hiders i) ≡ is_hidden_by es (slice_get es (i - first_of start))) s.floor s.hiders) n le);
   fronts = λ unseen n lt.
       let apart = or_parts (is_purge_to old.floor j.header) old.reached (sym m.reached ∙ unseen) in
       fronts_next (first_of start) old.fronts new.fronts es j (s.fronts apart.1) (ap (λ f. is_purge_to f j.header) (sym s.floor) ∙ apart.0) (subst (λ f. AddsFront j.header.kind f j.header old.fronts new.fronts) s.floor m.fronts) n lt;

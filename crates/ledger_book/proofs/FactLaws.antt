@@ -1,10 +1,13 @@
 -- Lemmas on the journal that an occult names: what a book tells of it is what the history says.
-use Rattle.std.specs.Prelude.{IsTrue, nat_le, nat_lt, slice_get, get_or}
-use Rattle.std.proofs.lemmas.List.{get_or-drop}
+use Rattle.std.specs.Prelude.{IsTrue, filter, nat_le, nat_lt, slice_get, get_or, ◌&&◌}
+use Rattle.std.proofs.lemmas.List.{get_or-drop, length-map}
+use Rattle.clue_index.specs.Added.{Added, trail_of}
+use Rattle.clue_index.specs.Index as index
+use Rattle.clue_index.specs.Trail.{count_of, kept_from}
 use Rattle.sha2.specs.Sha256.{sha256}
 use Rattle.std.specs.Result.{result_err}
 use Rattle.std.specs.Option.{is_some, is_none}
-use Rattle.std.proofs.Common.{◌≡◌, ℕ, zero, suc, ◌+◌, ◌-◌, ◌<◌, ◌≤◌, ◌↔◌, not, Bool, true, false, cond, List, [], ◌∷◌, ◌++◌, map, drop, Option, Some, None, refl, sym, ◌∙◌, ap, arith}
+use Rattle.std.proofs.Common.{◌≡◌, ℕ, zero, suc, ◌+◌, ◌-◌, ◌^◌, ◌<◌, ◌≤◌, ◌↔◌, not, Bool, true, false, cond, List, [], ◌∷◌, ◌++◌, length, map, drop, Option, Some, None, refl, sym, ◌∙◌, ap, arith}
 use Rattle.std.proofs.lemmas.Bool.{lt-leb, le-ltb, leb-false, ltb-false, true≢false}
 use Rattle.std.proofs.lemmas.Slice.Eq.{bytes_eq-Decides}
 use Rattle.ledger_bytes.specs.Digests.{digest}
@@ -16,20 +19,29 @@ use Rattle.journal_record.specs.declared.header.Header.{Header}
 use Rattle.journal_record.specs.declared.header.Kind.{Kind}
 use Rattle.journal_record.specs.declared.header.Kind.TheVariants as kind
 use Rattle.member_book.specs.Approvals.{judgement}
-use Rattle.member_book.specs.Erasures.{purged, no_record, hidden_by, other_leaf, target_row, first_refusal}
+use Rattle.member_book.specs.Erasures.{purged, no_record, hidden_by, other_leaf, target_row, clue_occult_row, first_refusal}
+use Rattle.journal_record.specs.declared.approval.Approval.{Approval}
+use Rattle.erase_rules.specs.declared.clue_occult.ClueFacts.{ClueFacts}
 use Rattle.erase_rules.specs.declared.occult.OccultFacts.{OccultFacts}
-use Rattle.ledger_model.specs.History.{History, history, journals, size, point, leaf_digest}
+use Rattle.ledger_model.specs.Clues.{numbers_of, jsns_with}
+use Rattle.ledger_model.specs.History.{History, history, journals, size, point, greatest_point, leaf_digest}
 use Rattle.ledger_model.specs.Lawful.{IsNextOccult}
-use Rattle.ledger_model.specs.Targets.{hider, kind_at, leaf_at}
+use Rattle.ledger_model.specs.Targets.{is_hidden_by, is_hidden, hider, kind_at, leaf_at, shown_with}
 use Rattle.ledger_model.proofs.AcceptedLaws.{target_own}
 use Rattle.ledger_model.proofs.HideLaws.{hidden_is}
 use Rattle.merkle_batch.specs.Over.{StandsOver}
 use Rattle.merkle_batch.specs.Rows.{Levels, StandsFor}
 use Rattle.pseudo_genesis.specs.declared.base.Base.{Base}
-use Rattle.ledger_model.specs.Behind.{first_of}
-use Rattle.ledger_book.specs.Books.{headers}
-use Rattle.ledger_book.specs.Facts.{AreFacts, kind_in}
-use Rattle.ledger_book.specs.Reading.{HasLeaves}
+use Rattle.ledger_model.specs.Behind.{first_of, clues_behind, shown_behind}
+use Rattle.ledger_book.specs.Books.{Kept, Serves, headers}
+use Rattle.ledger_book.specs.Hiders.{hider_in}
+use Rattle.ledger_book.specs.Facts.{AreFacts, AreClueFacts, kind_in}
+use Rattle.ledger_book.specs.Reading.{HasLeaves, StandsBehind}
+use Rattle.ledger_book.proofs.BehindLaws.{from_first, kept_behind}
+use Rattle.ledger_book.proofs.ClueLaws.{told_kept}
+use Rattle.ledger_book.proofs.NextLaws.{few_under}
+use Rattle.ledger_book.proofs.ShownLaws.{all_kept, shown_kept, shown_numbers}
+use Rattle.ledger_book.proofs.StandsLaws.{point_is}
 
 -- the kind that a header tells which is there, and of one that isn't
 pub kind_read : (hs : List Header) (n : ℕ) (x : Header) → Some x ≡ slice_get hs n → x.kind ≡ kind_in hs n
@@ -139,3 +151,40 @@ row_after (Some x) row is = absurd cc
 pub row_first : (first : Option Refusal) (row : List (Option Refusal)) (refusal : Refusal) → Some refusal ≡ first → Some refusal ≡ first_refusal (first ∷ row)
 row_first None row refusal is = absurd cc
 row_first (Some x) row refusal is = is
+
+-- ---- a clue
+
+-- what a book tells of the records of a clue that are kept and shown, by the numbers of those that are kept
+abbrev is_told : Kept → ℕ → Bool
+is_told k n = nat_le k.point n && not (is_some (hider_in k.floor k.hiders n))
+
+pub told_shown : (k : Kept) (h : History) (clue : Digest) (kept shown : List ℕ) → Serves k h
+    → ((a : Added) → index.StandsForTrails k.clues a → kept ≡ kept_from a.floor (trail_of a clue.0)) → shown ≡ filter (is_told k) kept → length shown ≡ length (shown_with h clue)
+unfolding shown_with
+told_shown k h clue kept shown s told is =
+    ap length (
+    is ∙ ap (filter (is_told k)) (told_kept k h clue kept s.stands told)
+    ∙ shown_kept k.floor k.point (λ n. is_some (hider_in k.floor k.hiders n)) (λ n. is_hidden h n) s.seen (λ n le. ap is_some (s.stands.hiders n le) ∙ sym (hidden_is h n)) (jsns_with h clue)
+    ∙ ap (λ p. filter (λ n. nat_le p n && not (is_hidden h n)) (jsns_with h clue)) (point_is k h s)
+    )
+
+pub shown_in : (k : Kept) (start : Option Base) (es : List Entry) (clue : Digest) (kept shown : List ℕ) → StandsBehind k start es
+    → ((a : Added) → index.StandsForTrails k.clues a → kept ≡ kept_from a.floor (trail_of a clue.0)) → shown ≡ filter (is_told k) kept → length shown ≡ length (shown_behind es clue)
+shown_in k start es clue kept shown s told is =
+    let from = from_first start es s.are in
+    ap length (
+    is ∙ ap (filter (is_told k)) (kept_behind start es k.clues clue kept s.clues told ∙ all_kept (first_of start) clue es (first_of start) from (omega arith))
+    ∙ ap (λ p. filter (λ n. nat_le p n && not (is_some (hider_in k.floor k.hiders n))) (numbers_of clue es)) s.point
+    ∙ shown_numbers (first_of start) (greatest_point es) (λ n. is_some (hider_in k.floor k.hiders n)) clue es es from (λ i e at. s.hiders (first_of start + i) (omega arith) ∙ ap (λ m. is_hidden_by es (slice_get es m)) (let same : first_of start + i - first_of start ≡ i = omega arith in same) ∙ ap (is_hidden_by es) at)
+    )
+    ∙ length-map (shown_behind es clue) (λ (e : Entry). e.header.jsn)
+
+-- how many there are behind a base
+pub count_told : (k : Kept) (start : Option Base) (es : List Entry) (clue : Digest) (count : ℕ) → StandsBehind k start es → k.size < 2 ^ 32
+    → ((a : Added) → index.StandsForTrails k.clues a → count_of (trail_of a clue.0) < 2 ^ 32 → count ≡ count_of (trail_of a clue.0)) → count ≡ count_of (trail_of (clues_behind start es) clue.0)
+count_told k start es clue count s few told = told (clues_behind start es) s.clues (few_under k start es s (2 ^ 32) few clue.0)
+
+-- the row over what is told of a clue is that over the history
+pub clue_row_told : (h : History) (f : ClueFacts) (clue : Digest) (known : List (List ℕ)) (count : ℕ) (given : List Approval) → AreClueFacts h f clue → first_refusal (clue_occult_row f.count f.shown known count given) ≡ first_refusal (clue_occult_row (length (jsns_with h clue)) (length (shown_with h clue)) known count given)
+clue_row_told h f clue known count given a =
+    ap (λ n. first_refusal (clue_occult_row n f.shown known count given)) a.count ∙ ap (λ n. first_refusal (clue_occult_row (length (jsns_with h clue)) n known count given)) a.shown

@@ -1,8 +1,8 @@
 -- Lemmas on the book of a first journal.
-use Rattle.std.proofs.Common.{◌≡◌, ℕ, ◌-◌, ◌&&◌, ◌||◌, ◌==◌, true, false, cond, not, None, List, [], ◌∷◌, ◌++◌, length, take, drop, refl, ap, sym, subst, ◌∙◌, arith}
+use Rattle.std.proofs.Common.{◌≡◌, ℕ, ◌-◌, ◌&&◌, ◌||◌, ◌==◌, true, false, cond, not, Option, None, Some, List, [], ◌∷◌, ◌++◌, length, take, drop, refl, ap, sym, subst, ◌∙◌, arith}
 use Rattle.std.specs.List.{fold}
 use Rattle.std.specs.Option.{is_some}
-use Rattle.std.specs.Prelude.{max, map, get_or, zero, suc}
+use Rattle.std.specs.Prelude.{max, map, get_or, slice_get, zero, suc}
 use Rattle.std.proofs.lemmas.Bool.{eqb-true, true≢false}
 use Rattle.std.proofs.lemmas.List.{take_at, drop_at}
 use Rattle.sha2.specs.Sha256.{sha256}
@@ -34,7 +34,7 @@ use Rattle.ledger_model.specs.Members.{members, is_member, member_of}
 use Rattle.ledger_model.specs.declared.genesis.Genesis.{Genesis}
 use Rattle.ledger_model.specs.declared.limits.Limits.{Limits}
 use Rattle.ledger_model.proofs.KeepLaws.{genesis_lawful}
-use Rattle.ledger_model.specs.Targets.{is_occult}
+use Rattle.ledger_model.specs.Targets.{hides_as, is_hidden_by}
 use Rattle.ledger_model.proofs.HideLaws.{none_behind}
 use Rattle.ledger_model.proofs.LawfulLaws.{lawful_from}
 use Rattle.ledger_book.specs.Hiders.{TellHiders, told_hider, hider_in}
@@ -168,11 +168,14 @@ module _ (header : Header) (j : Entry) (kind_is : header.kind ≡ kind.Genesis) 
     reached = refl;
     members = ap length m ∙ ap (λ (k : Kind). length (book.founders operator regulator ++ map member_of (cond (is_member k) (j ∷ []) []))) (sym sort);
     clues = subst (index.StandsForTrails clues) (sym (marks_same 0 [] j (ap not (subst (λ k. clue_ok k j.header.clue ≡ true) sort (subst IsHeader (sym is) layout).clue)))) c;
-    hiders = λ n le. ap (λ (x : List ℕ). is_some (hider_in 0 x n)) bs ∙ ap (λ v. is_some (told_hider v)) (none_first (n - 0)) ∙ sym (ap (λ (k : Kind). (is_occult k && j.header.a == n) || false) sort);
+    hiders = λ n le. ap (λ (x : List ℕ). is_some (hider_in 0 x n)) bs ∙ ap (λ v. is_some (told_hider v)) (none_first (n - 0)) ∙ sym (none_hidden_by (slice_get (j ∷ []) (n - 0)));
     fronts = λ unseen. absurd (true≢false unseen);
     headers_are = hss ∙ ap (λ x. x ∷ []) (sym is);
     leaves = subst (λ x. StandsFor sha256 rows (x ∷ [])) (l ∙ ap (leaf sha256) (e ∙ ap spelling (sym is))) stands;
-  }
+  } where
+    none_hidden_by : (t : Option Entry) → is_hidden_by (j ∷ []) t ≡ false
+    none_hidden_by None = refl
+    none_hidden_by (Some other) = ap (λ (k : Kind). hides_as k j.header other.header || false) sort
 
 -- the first journal of a new ledger
 module _ (genesis : Genesis) where

@@ -1,5 +1,5 @@
 -- Lemmas on which header is the next one where no base stands in front: it is the next one of the history.
-use Rattle.std.specs.Prelude.{Bool, true, false, cond, zero, suc, None, Some, Option, filter, bytes_eq, not, nat_le}
+use Rattle.std.specs.Prelude.{Bool, true, false, cond, zero, suc, None, Some, Option, filter, bytes_eq, not, nat_le, slice_get}
 use Rattle.std.specs.Set.{distinct_count}
 use Rattle.std.proofs.Common.{◌≡◌, ℕ, ◌+◌, ◌-◌, ◌<◌, ◌&&◌, ◌==◌, List, [], ◌∷◌, length, map, refl, sym, ◌∙◌, ap, subst, arith}
 use Rattle.std.proofs.lemmas.Bool.{eqb-true, eq-eqb, leb-false, lt-leb, true≢false}
@@ -22,12 +22,13 @@ use Rattle.ledger_model.specs.History.{History, history, point, greatest_point}
 use Rattle.ledger_model.specs.Judgements.{clues_full}
 use Rattle.ledger_model.specs.Lawful.{AreLawful, IsNext, IsNextOf, IsNextRecord}
 use Rattle.ledger_model.specs.Limits.{real_limits}
-use Rattle.ledger_model.specs.Targets.{kind_at, leaf_at}
-use Rattle.ledger_model.proofs.HideLaws.{hidden_named}
+use Rattle.ledger_model.specs.Targets.{is_hidden_by, is_hidden, kind_at, leaf_at, shown_with}
+use Rattle.ledger_model.proofs.LawfulLaws.{lawful_from}
 use Rattle.ledger_model.proofs.MarkLaws.{marks}
 use Rattle.ledger_model.specs.Numbers.{numbered}
 use Rattle.ledger_book.proofs.NumberedLaws.{from_floor}
-use Rattle.ledger_model.specs.Behind.{numbered_from, clues_behind, IsRecordBehind, IsOwnBehind, IsNextBehind}
+use Rattle.ledger_book.proofs.ShownLaws.{shown_numbers}
+use Rattle.ledger_model.specs.Behind.{numbered_from, clues_behind, shown_behind, IsRecordBehind, IsOwnBehind, IsNextBehind}
 
 -- the judgement on the room for a clue, by what it looks at
 abbrev pub full : Bool → Bool → Bool → Option Refusal
@@ -76,6 +77,11 @@ no_room h clue room has none =
           ∙ ap (λ v. cond v (Some CluesFull) None) full))
       | false ↦ λ low. leb-false 1_048_576 (clue_count h) low
     ] refl
+
+-- what nothing becomes of was nothing
+pub nothing_mapped : {A B : Type 0} (f : A → B) (xs : List A) → map f xs ≡ [] → xs ≡ []
+nothing_mapped f [] is = refl
+nothing_mapped f (x ∷ xs) is = absurd cc
 
 -- where no base stands in front
 module _ (es : List Entry) where
@@ -133,23 +139,30 @@ module _ (es : List Entry) where
   here : (n : ℕ) (k : Kind) → kind_at h n ≡ k → is_genesis k ≡ false → n < length es
   here n k is isnt = there es n k is isnt
 
+  -- those of a clue that are kept and shown
+  shown_same : (clue : Digest) → AreLawful es → shown_with h clue ≡ map (λ (e : Entry). e.header.jsn) (shown_behind es clue)
+  unfolding shown_with jsns_with point
+  shown_same clue lawful = shown_numbers 0 (greatest_point es) (λ n. is_hidden h n) clue es es (lawful_from es lawful) (λ i e at. ap (λ k. is_hidden_by es (slice_get es k)) (let same : 0 + i ≡ i = omega arith in same) ∙ ap (is_hidden_by es) at)
+
   own_to : (x : Header) (k : Kind) → AreLawful es → IsNextOf h x k → IsOwnBehind None es x k
-  unfolding point
+  unfolding point jsns_with shown_with
   own_to x kind.Genesis lawful own = tt
   own_to x kind.Content lawful own = record_to x own
   own_to x kind.Member lawful own = own
   own_to x kind.Time lawful own = tt
   own_to x kind.Occult lawful own = record {
-    shown = sym (hidden_named h x.a lawful) ∙ own.shown;
+    named = λ low. absurd (omega (arith, low));
+    shown = λ _. ap (λ i. is_hidden_by es (slice_get es i)) (less_none x.a) ∙ own.shown;
     front = λ low. absurd (omega (arith, low));
     kept = λ _. own.kept;
     target_is = λ _. ap (kind_at h) (less_none x.a) ∙ own.target_is;
     leaf_is = λ _. own.leaf_is ∙ sym (ap (leaf_at h) (less_none x.a));
   }
+  own_to x kind.ClueOccult lawful own = record { count = own.count ∙ sym (count_is x.link); shown = λ _ none. own.shown (shown_same x.link lawful ∙ ap (map (λ (e : Entry). e.header.jsn)) none) }
   own_to x kind.Purge lawful own = record { above = own.above; target_is = λ _. ap (kind_at h) (less_none x.a) ∙ own.target_is }
 
   own_from : (x : Header) (k : Kind) → AreLawful es → IsOwnBehind None es x k → IsNextOf h x k
-  unfolding point
+  unfolding point jsns_with shown_with
   own_from x kind.Genesis lawful own = tt
   own_from x kind.Content lawful own = record_from x own
   own_from x kind.Member lawful own = own
@@ -158,9 +171,10 @@ module _ (es : List Entry) where
     kept = own.kept (omega arith);
     before = here x.a kind.Content (ap (kind_at h) (sym (less_none x.a)) ∙ own.target_is (omega arith)) refl;
     target_is = ap (kind_at h) (sym (less_none x.a)) ∙ own.target_is (omega arith);
-    shown = hidden_named h x.a lawful ∙ own.shown;
+    shown = ap (λ i. is_hidden_by es (slice_get es i)) (sym (less_none x.a)) ∙ own.shown (omega arith);
     leaf_is = own.leaf_is (omega arith) ∙ ap (leaf_at h) (less_none x.a);
   }
+  own_from x kind.ClueOccult lawful own = record { count = own.count ∙ count_is x.link; shown = λ none. own.shown refl (nothing_mapped (λ (e : Entry). e.header.jsn) _ (sym (shown_same x.link lawful) ∙ none)) }
   own_from x kind.Purge lawful own = record { above = own.above; before = here x.a kind.Time (ap (kind_at h) (sym (less_none x.a)) ∙ own.target_is (omega arith)) refl; target_is = ap (kind_at h) (sym (less_none x.a)) ∙ own.target_is (omega arith) }
 
   pub ground_next : (x : Header) → AreLawful es → IsNext h x → IsNextBehind None es x

@@ -10,7 +10,7 @@ use Rattle.journal_record.specs.declared.approval.Approval.{Approval}
 use Rattle.journal_record.specs.declared.header.Header.{Header}
 use Rattle.journal_record.specs.declared.header.Kind.{Kind}
 use Rattle.journal_record.specs.declared.header.Kind.TheVariants as kind
-use Rattle.ledger_model.specs.Appends.{append_header, member_header}
+use Rattle.ledger_model.specs.Appends.{append_header, member_header, clue_occult_header}
 use Rattle.ledger_model.specs.Genesis.{founders_content, genesis_header}
 use Rattle.ledger_model.specs.Headers.{plain_header}
 use Rattle.ledger_model.specs.declared.genesis.Genesis.{Genesis}
@@ -48,11 +48,17 @@ record_is version jsn member clue ordinal previous count content content_digest 
     ap (λ x. record (header_with kind.Content jsn member clue ordinal previous number request count content_digest who) { version = x }) v
     ∙ ap (λ x. record (header_with kind.Content jsn member clue ordinal previous number request x content_digest who) { version = version_of kind.Content number x }) (sym n)
 
-pub plain_is : (k : Kind) (jsn a b : ℕ) (link content who_digest : Digest) (who : List ℕ) → content.0 ≡ content_digest_of [] → who_digest.0 ≡ who_digest_of who
-    → record (header_with k jsn 0 zero_digest 0 0 a link 0 content who_digest) { b = b } ≡ plain_header k jsn a b link who
-plain_is k jsn a b link content who_digest who c w =
-    ap (λ x. record (header_with k jsn 0 zero_digest 0 0 a link 0 (digest x) who_digest) { b = b }) c
-    ∙ ap (λ x. record (header_with k jsn 0 zero_digest 0 0 a link 0 (digest (content_digest_of [])) (digest x)) { b = b }) w
+pub plain_is : (k : Kind) (version jsn a b : ℕ) (link content who_digest : Digest) (who : List ℕ) → version ≡ version_of k a 0 → content.0 ≡ content_digest_of [] → who_digest.0 ≡ who_digest_of who
+    → record (header_with k jsn 0 zero_digest 0 0 a link 0 content who_digest) { version = version; b = b } ≡ plain_header k jsn a b link who
+plain_is k version jsn a b link content who_digest who v c w =
+    ap (λ x. record (header_with k jsn 0 zero_digest 0 0 a link 0 content who_digest) { version = x; b = b }) v
+    ∙ ap (λ x. record (header_with k jsn 0 zero_digest 0 0 a link 0 (digest x) who_digest) { version = version_of k a 0; b = b }) c
+    ∙ ap (λ x. record (header_with k jsn 0 zero_digest 0 0 a link 0 (digest (content_digest_of [])) (digest x)) { version = version_of k a 0; b = b }) w
+
+-- the count of an occult by clue as wide as the field
+pub clue_is : (jsn count a : ℕ) (clue : Digest) (given : List Approval) (header : Header) → a ≡ count → header ≡ plain_header kind.ClueOccult jsn a 0 clue (who_of given) → header ≡ clue_occult_header jsn clue count given
+unfolding clue_occult_header
+clue_is jsn count a clue given header n is = is ∙ ap (λ x. plain_header kind.ClueOccult jsn x 0 clue (who_of given)) n
 
 -- the number of a new member as wide as the field
 pub member_is : (jsn number a : ℕ) (key : Digest) (by : Approval) (header : Header) → a ≡ number → header ≡ plain_header kind.Member jsn a 0 key (who_of (by ∷ [])) → header ≡ member_header jsn number key by

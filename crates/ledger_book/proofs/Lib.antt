@@ -22,6 +22,7 @@ mod NamedLaws
 mod TellLaws
 mod NextLaws
 mod PurgeLaws
+pub mod ShownLaws
 pub mod GroundLaws
 pub mod OwnLaws
 pub mod SeenLaws

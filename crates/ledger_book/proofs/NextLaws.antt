@@ -1,9 +1,9 @@
 -- Lemmas on which header is the next one behind a base.
-use Rattle.std.specs.Prelude.{IsTrue, bytes_eq, nat_le, nat_lt}
+use Rattle.std.specs.Prelude.{IsTrue, bytes_eq, nat_le, nat_lt, ◌&&◌, ◌||◌, ◌==◌, not}
 use Rattle.std.specs.List.{fold}
 use Rattle.std.specs.Option.{is_some, is_none}
 use Rattle.std.proofs.Common.{◌≡◌, ◌≢◌, ℕ, ◌+◌, ◌-◌, ◌^◌, ◌<◌, ◌≤◌, ◌↔◌, Bool, true, false, cond, List, [], ◌∷◌, Option, Some, None, length, zero, suc, refl, sym, ap, ◌∙◌, arith}
-use Rattle.std.proofs.lemmas.Bool.{lt-leb, le-ltb, leb-false, ltb-true, ltb-false, true≢false, and_parts}
+use Rattle.std.proofs.lemmas.Bool.{lt-leb, lt-ltb, le-ltb, leb-false, ltb-true, ltb-false, eqb-true, eq-eqb, true≢false, and_parts, and_from}
 use Rattle.std.proofs.lemmas.Slice.Eq.{bytes_eq-Decides}
 use Rattle.ledger_bytes.specs.declared.digest.Digest.{Digest}
 use Rattle.ledger_bytes.specs.declared.refusal.Refusal.{Refusal}
@@ -17,20 +17,22 @@ use Rattle.journal_record.specs.declared.header.Header.{Header}
 use Rattle.journal_record.specs.declared.header.Kind.{Kind}
 use Rattle.journal_record.specs.declared.header.Kind.TheVariants as kind
 use Rattle.member_book.specs.Erasures.{is_record, absent, purged, no_record, hidden_by, other_leaf, target_row, first_refusal}
+use Rattle.erase_rules.specs.declared.clue_occult.ClueFacts.{ClueFacts}
 use Rattle.erase_rules.specs.declared.occult.OccultFacts.{OccultFacts}
 use Rattle.ledger_model.specs.History.{History, history, journals}
-use Rattle.ledger_model.specs.Lawful.{IsNextOf}
+use Rattle.ledger_model.specs.Lawful.{IsNextOf, IsNextClueOccult}
 use Rattle.ledger_model.specs.Limits.{real_limits}
-use Rattle.ledger_model.specs.Targets.{kind_at}
+use Rattle.ledger_model.specs.Targets.{kind_at, shown_with}
 use Rattle.ledger_model.proofs.AcceptedLaws.{IsNone}
 use Rattle.pseudo_genesis.specs.Bases.{AreStates}
 use Rattle.pseudo_genesis.specs.declared.base.Base.{Base}
-use Rattle.ledger_model.specs.Behind.{IsNextBehind, IsOwnBehind, IsOccultBehind, HasRoomFor, BeginsWell, ordinal_in, clues_behind, first_of, next_number}
+use Rattle.ledger_model.specs.Behind.{IsNextBehind, IsOwnBehind, IsOccultBehind, IsClueOccultBehind, shown_behind, has_own_purge, HasRoomFor, BeginsWell, ordinal_in, clues_behind, first_of, next_number}
 use Rattle.ledger_book.specs.Books.{Kept, Serves}
-use Rattle.ledger_book.specs.Facts.{AreFactsBehind}
+use Rattle.ledger_book.specs.Facts.{AreFactsBehind, AreClueFacts, AreClueFactsBehind}
 use Rattle.ledger_book.specs.Reading.{StandsBehind}
 use Rattle.ledger_book.specs.Steps.{MayPlace}
 use Rattle.ledger_book.proofs.BaseLaws.{some_point}
+use Rattle.ledger_book.proofs.HiderLaws.{or_true}
 use Rattle.ledger_book.proofs.TellLaws.{listed_few}
 use Rattle.ledger_book.proofs.TimeLaws.{point_low}
 
@@ -51,11 +53,14 @@ module _ (clue : List ℕ) (point : ℕ) where
         | false ↦ state_few s.clue ss t are.1 lt
       ]
 
-pub few_behind : (k : Kept) (start : Option Base) (es : List Entry) → StandsBehind k start es → k.size < 4_294_967_295 → (clue : List ℕ) → count_of (trail_of (clues_behind start es) clue) < 2 ^ 32 - 1
-few_behind k None es s few clue = omega (arith, s.size_is, few, listed_few clue es)
-few_behind k (Some b) es s few clue =
+pub few_under : (k : Kept) (start : Option Base) (es : List Entry) → StandsBehind k start es → (n : ℕ) → k.size < n → (clue : List ℕ) → count_of (trail_of (clues_behind start es) clue) < n
+few_under k None es s n few clue = omega (arith, s.size_is, few, listed_few clue es)
+few_under k (Some b) es s n few clue =
     let low : (state_of clue b.clues).count + length (state_of clue b.clues).jsns < b.point + 0 = state_few clue b.point _ b.clues no_trail s.begins.clues (some_point b s.begins) in
     omega (arith, s.size_is, few, listed_few clue es, low)
+
+pub few_behind : (k : Kept) (start : Option Base) (es : List Entry) → StandsBehind k start es → k.size < 4_294_967_295 → (clue : List ℕ) → count_of (trail_of (clues_behind start es) clue) < 2 ^ 32 - 1
+few_behind k start es s few clue = few_under k start es s 4_294_967_295 few clue
 
 -- the first header behind a base
 pub begins_well : (k : Kept) (start : Option Base) (es : List Entry) (x : Header) → StandsBehind k start es → 1 ≤ k.size → (k.size ≡ k.floor → x.kind ≡ kind.Time) → BeginsWell start es x
@@ -118,6 +123,7 @@ record_is kind.Genesis is = absurd (true≢false (sym is))
 record_is kind.Member is = absurd (true≢false (sym is))
 record_is kind.Time is = absurd (true≢false (sym is))
 record_is kind.Occult is = absurd (true≢false (sym is))
+record_is kind.ClueOccult is = absurd (true≢false (sym is))
 record_is kind.Purge is = absurd (true≢false (sym is))
 
 module _ (size point : ℕ) (sort : Kind) (by : Option ℕ) (kept : Digest) (target : ℕ) (leaf : Digest) where
@@ -160,7 +166,8 @@ occult_behind start es x f o a le told = (
   λ yes.
       let says = row_says f.size f.point f.kind f.by f.leaf f.target x.link (sym told ∙ none_is o yes) in
       let before : x.a < next_number start es = omega (arith, says.before, a.size_is, a.target_is) in record {
-        shown = sym a.by_is ∙ says.shown;
+        named = λ low. absurd (omega (arith, low, le));
+        shown = λ _. sym a.by_is ∙ says.shown;
         front = λ low. absurd (omega (arith, low, le));
         kept = λ _. omega (arith, says.above, a.point_is, a.target_is);
         target_is = λ _. sym a.kind_is ∙ says.sort_is;
@@ -172,7 +179,7 @@ occult_behind start es x f o a le told = (
         before = omega (arith, before, a.size_is, a.target_is);
         above = omega (arith, own.kept le, a.point_is, a.target_is);
         sort_is = a.kind_is ∙ own.target_is le;
-        shown = a.by_is ∙ own.shown;
+        shown = a.by_is ∙ own.shown le;
         leaf_is = own.leaf_is le ∙ sym (a.leaf_is before);
       })),
 )
@@ -180,3 +187,40 @@ occult_behind start es x f o a le told = (
 -- a clue that has a journal, and no clue, need no room
 pub room_old : (most : ℕ) (a : Added) (clue : Digest) (ordinal : ℕ) → ordinal ≡ ordinal_in a clue → ordinal ≢ 1 → HasRoomFor most a clue
 room_old most a clue ordinal is isnt has none = absurd (isnt (is ∙ ap (λ v. cond v 0 (count_of (trail_of a clue.0) + 1)) has ∙ ap (λ n. n + 1) none))
+
+-- ---- an occult by clue
+
+-- what a book tells of a clue, by which an occult of its records may be next
+test_says : (a count shown : ℕ) (reached : Bool) → IsTrue (a == count && (nat_lt 0 shown || not reached)) → (a ≡ count) × (reached ≡ true → 0 < shown)
+test_says a count shown reached is =
+    let parts = and_parts (a == count) (nat_lt 0 shown || not reached) is in
+    (eqb-true a count parts.0, λ seen. by_test (nat_lt 0 shown) refl (sym (ap (λ v. nat_lt 0 shown || not v) seen) ∙ parts.1)) where
+      by_test : (v : Bool) → nat_lt 0 shown ≡ v → (v || false) ≡ true → 0 < shown
+      by_test true lt some = ltb-true 0 shown lt
+      by_test false lt some = absurd (true≢false (sym some))
+
+test_of : (a count shown : ℕ) (reached : Bool) → a ≡ count → (reached ≡ true → 0 < shown) → IsTrue (a == count && (nat_lt 0 shown || not reached))
+test_of a count shown reached at some = and_from _ _ (eq-eqb a count at) (by_reached reached refl) where
+  by_reached : (v : Bool) → reached ≡ v → (nat_lt 0 shown || not reached) ≡ true
+  by_reached true seen = ap (λ v. v || not reached) (lt-ltb 0 shown (some seen))
+  by_reached false unseen = ap (λ v. nat_lt 0 shown || not v) unseen ∙ or_true (nat_lt 0 shown)
+
+some_list : {A : Type 0} (xs : List A) → 0 < length xs → xs ≢ []
+some_list [] lt = absurd (omega (arith, lt))
+some_list (x ∷ xs) lt = λ none. absurd cc
+
+list_some : {A : Type 0} (xs : List A) → xs ≢ [] → 0 < length xs
+list_some [] some = absurd (some refl)
+list_some (x ∷ xs) some = omega arith
+
+pub next_clue : (h : History) (x : Header) (f : ClueFacts) (reached : Bool) → reached ≡ true → AreClueFacts h f x.link → IsTrue (x.a == f.count && (nat_lt 0 f.shown || not reached)) ↔ IsNextClueOccult h x
+next_clue h x f reached seen a = (
+  λ yes. let says = test_says x.a f.count f.shown reached yes in record { count = says.0 ∙ a.count; shown = some_list (shown_with h x.link) (let some = says.1 seen in omega (arith, some, a.shown)) },
+  λ own. test_of x.a f.count f.shown reached (own.count ∙ sym a.count) (λ _. let some = list_some (shown_with h x.link) own.shown in omega (arith, some, a.shown)),
+)
+
+pub clue_behind : (start : Option Base) (es : List Entry) (x : Header) (f : ClueFacts) (reached : Bool) → reached ≡ has_own_purge start es → AreClueFactsBehind start es f x.link → IsTrue (x.a == f.count && (nat_lt 0 f.shown || not reached)) ↔ IsClueOccultBehind start es x
+clue_behind start es x f reached seen a = (
+  λ yes. let says = test_says x.a f.count f.shown reached yes in record { count = says.0 ∙ a.count; shown = λ there. some_list (shown_behind es x.link) (let some = says.1 (seen ∙ there) in omega (arith, some, a.shown)) },
+  λ own. test_of x.a f.count f.shown reached (own.count ∙ sym a.count) (λ yes. let some = list_some (shown_behind es x.link) (own.shown (sym seen ∙ yes)) in omega (arith, some, a.shown)),
+)

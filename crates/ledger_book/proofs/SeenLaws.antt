@@ -1,7 +1,8 @@
 -- Lemmas on a header that is the next one of a history: it is so for who sees only what stands behind a base of it; once the
 -- purge to the base's own point was seen, it is the other way round too.
 use Rattle.std.specs.List.{list_any, AllByRecursion}
-use Rattle.std.specs.Prelude.{Bool, true, false, cond, Some, None, get_or, filter, max, nat_le, bytes_eq, zero, suc, not, T}
+use Rattle.std.specs.Option.{is_some}
+use Rattle.std.specs.Prelude.{Bool, true, false, cond, Option, Some, None, get_or, slice_get, filter, max, nat_le, bytes_eq, zero, suc, not, T}
 use Rattle.std.specs.FinMap.{entries, is_sorted, entries_sorted}
 use Rattle.std.specs.Set.{distinct_count}
 use Rattle.std.proofs.Common.{◌≡◌, ℕ, ◌+◌, ◌-◌, ◌<◌, ◌≤◌, ◌&&◌, ◌||◌, ◌==◌, List, [], ◌∷◌, ◌++◌, length, map, take, drop, refl, sym, ◌∙◌, ap, subst, arith, append-nil, append_assoc, length-append, length-drop, take-append-drop}
@@ -16,7 +17,7 @@ use Rattle.clue_index.specs.declared.state.ClueState.{ClueState}
 use Rattle.clue_index.proofs.CarryLaws.{trail_begun, given, listed_begun}
 use Rattle.clue_index.proofs.TrailLaws.{count_seen, last_seen}
 use Rattle.journal_record.specs.Entry.{Entry}
-use Rattle.ledger_model.specs.Clues.{has_clue, numbers_of, jsns_with, clue_count, next_ordinal, last_journal}
+use Rattle.ledger_model.specs.Clues.{has_clue, is_of_clue, numbers_of, jsns_with, clue_count, next_ordinal, last_journal}
 use Rattle.ledger_model.proofs.LawfulLaws.{AreFrom, lawful_from, later_seen, two_points, point_below, front_from, take_few}
 use Rattle.ledger_model.specs.Bases.{clue_mark_of, clues_added, front}
 use Rattle.ledger_model.proofs.EarlyLaws.{states_early}
@@ -40,13 +41,14 @@ use Rattle.journal_record.specs.declared.member.Member.{Member}
 use Rattle.ledger_model.specs.History.{History, history, journals, size, point, greatest_point, leaf_digest, seen_point}
 use Rattle.ledger_model.specs.Judgements.{clues_full}
 use Rattle.ledger_model.specs.Members.{founders, admits, member_of, admitted_members, members}
-use Rattle.ledger_model.specs.Targets.{is_hidden, kind_at, leaf_at}
-use Rattle.ledger_model.proofs.HideLaws.{hidden_named, named_before}
+use Rattle.ledger_model.specs.Targets.{names, hides, is_hidden_by, is_hidden, kind_at, leaf_at, shown_with}
+use Rattle.ledger_model.proofs.HideLaws.{hides_behind, named_is, none_named, number_at, shown_unnamed}
+use Rattle.ledger_book.proofs.ShownLaws.{is_shown, shown_numbers, front_gone}
 use Rattle.pseudo_genesis.specs.declared.base.Base.{Base}
-use Rattle.ledger_model.specs.Behind.{names, count_behind, clues_behind, IsRecordBehind, IsOwnBehind, BeginsWell, IsNextBehind, AreBehind, has_own_purge}
+use Rattle.ledger_model.specs.Behind.{count_behind, clues_behind, shown_behind, IsRecordBehind, IsOwnBehind, BeginsWell, IsNextBehind, AreBehind, has_own_purge}
 use Rattle.ledger_book.proofs.NumberedLaws.{fresh_behind, from_floor}
 use Rattle.ledger_book.proofs.OwnLaws.{own_least, false_where}
-use Rattle.ledger_book.proofs.GroundLaws.{full, no_room, numbers_same, last_same, clues_same, there}
+use Rattle.ledger_book.proofs.GroundLaws.{full, no_room, nothing_mapped, numbers_same, last_same, clues_same, there}
 use Rattle.ledger_model.specs.Lawful.{AreLawful, AreNext, IsFounded, IsNext, IsNextOf, IsNextRecord}
 use Rattle.ledger_book.proofs.TimeLaws.{drop_points, from_later}
 use Rattle.journal_record.specs.declared.header.Kind.TheVariants as kind
@@ -91,6 +93,11 @@ different_begun p a counted =
     (λ q. given p (from_point p a) q ∙ listed_begun p a counted q ∙ sym (given p a q))
 
 -- ---- a clue's journals
+
+slice_dropped : {A : Type 0} (n : ℕ) (xs : List A) (i : ℕ) → slice_get (drop n xs) i ≡ slice_get xs (n + i)
+slice_dropped zero xs i = ap (slice_get xs) (let same : i ≡ 0 + i = omega arith in same)
+slice_dropped (suc n) [] i = refl
+slice_dropped (suc n) (x ∷ xs) i = slice_dropped n xs i ∙ ap (slice_get (x ∷ xs)) (let same : suc (n + i) ≡ suc n + i = omega arith in same)
 
 map_drop : {A B : Type 0} (f : A → B) (n : ℕ) (xs : List A) → map f (drop n xs) ≡ drop n (map f xs)
 map_drop f zero xs = refl
@@ -192,9 +199,6 @@ module _ (h : History) (b : Base) (lawful : AreLawful (journals h)) (some : 1 �
       let same : n ≡ p + (n - p) = omega (arith, le) in
       ap (λ k. get_or (map leaf_digest js) k []) same ∙ sym (get_or-drop p (map leaf_digest js) (n - p) []) ∙ ap (λ l. get_or l (n - p) []) (sym (map_drop leaf_digest p js))
 
-  hidden_split : (n : ℕ) → is_hidden h n ≡ (list_any (names n) (take p js) || list_any (names n) es)
-  hidden_split n = hidden_named h n lawful ∙ ap (list_any (names n)) (sym (take-append-drop p js)) ∙ list_any-append (names n) (take p js) es
-
   low_points : greatest_point es ≤ point h
   unfolding point
   low_points = drop_points p js
@@ -206,6 +210,38 @@ module _ (h : History) (b : Base) (lawful : AreLawful (journals h)) (some : 1 �
       let parts : greatest_point js ≡ max (greatest_point (take p js)) (greatest_point es) = ap greatest_point (sym (take-append-drop p js)) ∙ two_points (take p js) es in
       let low : greatest_point (take p js) < p = point_below p 0 0 (take p js) (front_from 0 p js from) (take_few p js) (omega (arith, some)) in
       omega (arith, parts, low)
+
+  -- what hides one from the point on stands behind it, and so behind the base
+  front_shows : (e : Entry) → p ≤ e.header.jsn → list_any (hides e) (take p js) ≡ false
+  front_shows e le =
+      named_is (hides e) (take p js) ∙ ap is_some (none_named (hides e) 0 e.header.jsn (take p js) (hides_behind e) (front_from 0 p js from) (omega (arith, le, take_few p js)))
+
+  hidden_by_behind : (e : Entry) → p ≤ e.header.jsn → list_any (hides e) js ≡ list_any (hides e) es
+  hidden_by_behind e le =
+      ap (list_any (hides e)) (sym (take-append-drop p js)) ∙ list_any-append (hides e) (take p js) es ∙ ap (λ v. v || list_any (hides e) es) (front_shows e le)
+
+  there_behind : (n : ℕ) → p ≤ n → slice_get js n ≡ slice_get es (n - p)
+  there_behind n le = ap (slice_get js) (let same : n ≡ p + (n - p) = omega (arith, le) in same) ∙ sym (slice_dropped p js (n - p))
+
+  hidden_split : (n : ℕ) → p ≤ n → is_hidden h n ≡ is_hidden_by es (slice_get es (n - p))
+  hidden_split n le = ap (is_hidden_by js) (there_behind n le) ∙ by_target (slice_get es (n - p)) refl where
+    by_target : (t : Option Entry) → slice_get es (n - p) ≡ t → is_hidden_by js t ≡ is_hidden_by es t
+    by_target None at = refl
+    by_target (Some e) at = hidden_by_behind e (omega (arith, number_at (0 + p) (n - p) es e from_es at))
+
+  -- those of a clue that are kept and shown, once the purge to the base's own point was seen
+  shown_same : has_own_purge (Some b) es ≡ true → (clue : Digest) → shown_with h clue ≡ map (λ (e : Entry). e.header.jsn) (shown_behind es clue)
+  unfolding shown_with jsns_with seen_point
+  shown_same reached clue =
+      let seen = own_least (Some b) es reached in
+      let at : greatest_point es ≡ point h = later_seen h p lawful seen in
+      let split : numbers_of clue js ≡ numbers_of clue (take p js) ++ numbers_of clue es = ap (numbers_of clue) (sym (take-append-drop p js)) ∙ ap (map (λ (e : Entry). e.header.jsn)) (filter-append (is_of_clue clue) (take p js) es) ∙ map-append (λ (e : Entry). e.header.jsn) (filter (is_of_clue clue) (take p js)) (filter (is_of_clue clue) es) in
+      let kept : ℕ → Bool = λ n. nat_le (point h) n && not (is_hidden h n) in
+      ap (filter kept) split
+      ∙ filter-append kept (numbers_of clue (take p js)) (numbers_of clue es)
+      ∙ ap (λ l. l ++ filter kept (numbers_of clue es)) (front_gone 0 (point h) (λ n. is_hidden h n) clue (take p js) (front_from 0 p js from) (omega (arith, take_few p js, seen, at)))
+      ∙ shown_numbers (0 + p) (point h) (λ n. is_hidden h n) clue es es from_es (λ i e there. hidden_split (0 + p + i) (omega arith) ∙ ap (λ k. is_hidden_by es (slice_get es k)) (let same : 0 + p + i - p ≡ i = omega arith in same) ∙ ap (is_hidden_by es) there)
+      ∙ ap (λ q. map (λ (e : Entry). e.header.jsn) (filter (is_shown clue q es) es)) (sym at)
 
   -- a record
   record_behind : (x : Header) → IsNextRecord (history [] js) x → IsRecordBehind (Some b) es x
@@ -219,13 +255,14 @@ module _ (h : History) (b : Base) (lawful : AreLawful (journals h)) (some : 1 �
   }
 
   own_behind : (x : Header) (k : Kind) → IsNextOf (history [] js) x k → IsOwnBehind (Some b) es x k
-  unfolding members point
+  unfolding members point jsns_with shown_with
   own_behind x kind.Genesis own = tt
   own_behind x kind.Content own = record_behind x own
   own_behind x kind.Member own = own ∙ sym member_count
   own_behind x kind.Time own = tt
   own_behind x kind.Occult own = record {
-    shown = right_of (list_any (names x.a) (take p js)) (list_any (names x.a) es) (sym (hidden_split x.a) ∙ own.shown);
+    named = λ _. right_of (list_any (names x.a) (take p js)) (list_any (names x.a) es) (sym (list_any-append (names x.a) (take p js) es) ∙ ap (list_any (names x.a)) (take-append-drop p js) ∙ shown_unnamed h x.a lawful own.shown);
+    shown = λ le. sym (hidden_split x.a le) ∙ own.shown;
     front = λ low. false_where (has_own_purge (Some b) es) (λ there. omega (arith, low, own.kept, low_points, own_least (Some b) es there));
     kept = λ le. omega (arith, own.kept, low_points);
     target_is = λ le. sym (kind_behind x.a le) ∙ own.target_is;
@@ -234,6 +271,7 @@ module _ (h : History) (b : Base) (lawful : AreLawful (journals h)) (some : 1 �
     right_of : (v w : Bool) → (v || w) ≡ false → w ≡ false
     right_of true w is = absurd (true≢false is)
     right_of false w is = is
+  own_behind x kind.ClueOccult own = record { count = own.count ∙ sym (count_is x.link); shown = λ reached none. own.shown (shown_same reached x.link ∙ ap (map (λ (e : Entry). e.header.jsn)) none) }
   own_behind x kind.Purge own = record { above = omega (arith, own.above, low_points); target_is = λ le. sym (kind_behind x.a le) ∙ own.target_is }
 
   length_es : length es ≡ size h - p
@@ -282,7 +320,7 @@ module _ (h : History) (b : Base) (lawful : AreLawful (journals h)) (some : 1 �
           ∙ ap (λ v. full false true v) (lt-leb 1_048_576 (clue_count (history [] js)) low)
 
     own_next : (x : Header) (k : Kind) → IsOwnBehind (Some b) es x k → IsNextOf (history [] js) x k
-    unfolding members point
+    unfolding members point jsns_with shown_with
     own_next x kind.Genesis own = tt
     own_next x kind.Content own = record_next x own
     own_next x kind.Member own = own ∙ member_count
@@ -292,13 +330,14 @@ module _ (h : History) (b : Base) (lawful : AreLawful (journals h)) (some : 1 �
           kept = omega (arith, own.kept le, point_is);
           before = there js x.a kind.Content (kind_behind x.a le ∙ own.target_is le) refl;
           target_is = kind_behind x.a le ∙ own.target_is le;
-          shown = hidden_split x.a ∙ ap (λ v. v || list_any (names x.a) es) (named_before 0 x.a (take p js) (front_from 0 p js from) (omega (arith, le, take_few p js))) ∙ own.shown;
+          shown = hidden_split x.a le ∙ own.shown le;
           leaf_is = own.leaf_is le ∙ sym (leaf_behind x.a le);
         }
       where
         by_low : (v : Bool) → nat_le p x.a ≡ v → p ≤ x.a
         by_low true is = leb-true p x.a is
         by_low false is = absurd (true≢false (sym reached ∙ own.front (leb-false p x.a is)))
+    own_next x kind.ClueOccult own = record { count = own.count ∙ count_is x.link; shown = λ none. own.shown reached (nothing_mapped (λ (e : Entry). e.header.jsn) _ (sym (shown_same reached x.link) ∙ none)) }
     own_next x kind.Purge own =
         let le : p ≤ x.a = omega (arith, own.above, seen) in
         record { above = omega (arith, own.above, point_is); before = there js x.a kind.Time (kind_behind x.a le ∙ own.target_is le) refl; target_is = kind_behind x.a le ∙ own.target_is le }

@@ -38,15 +38,16 @@ use Rattle.ledger_model.proofs.HideLaws.{hidden_is}
 use Rattle.ledger_model.proofs.KeepLaws.{journals_wider}
 use Rattle.ledger_model.proofs.LawfulLaws.{later_seen, lawful_more, some_journal}
 use Rattle.ledger_model.proofs.PlaceLaws.{founders_kept, admitted_more, admitted_same}
-use Rattle.ledger_book.specs.Hiders.{TellHiders, hider_in, with_hider_of}
+use Rattle.ledger_book.specs.Hiders.{TellHiders, hider_in, with_hider_of, AreClued}
 use Rattle.ledger_book.specs.Books.{Kept, Stands, Serves, headers, leaf_digests, sealed_size, ends_above, aged_member, aged_members}
 use Rattle.ledger_model.specs.Bases.{clues_added}
 use Rattle.ledger_model.specs.Bounds.{marks_of}
 use Rattle.ledger_book.specs.Steps.{IsAsBefore, MayPlace, IsLeafOf, point_with, with_clue_of, with_time_of}
 use Rattle.ledger_book.specs.Seals.{head_at, sealed_block, seal_of}
 use Rattle.ledger_book.specs.declared.sealed.Sealed.{Sealed}
-use Rattle.ledger_book.proofs.ClueLaws.{marks_more, marks_same, marks_below}
-use Rattle.ledger_book.proofs.HiderLaws.{hiders_more}
+use Rattle.ledger_book.proofs.ClueLaws.{marks_more, marks_same, marks_below, told_kept}
+use Rattle.ledger_model.specs.Clues.{jsns_with}
+use Rattle.ledger_book.proofs.HiderLaws.{AreOfClue, hiders_more}
 use Rattle.ledger_book.proofs.TimeLaws.{point_more, times_more}
 
 -- how many journals wait
@@ -190,12 +191,12 @@ first_kept [] more some = absurd (omega (arith, some))
 first_kept (j ∷ js) more some = refl
 
 -- a journal more in the open block
-stands_wider : (k : Kept) (h : History) (j : Entry) (reached : Bool) (ms : List Member) (t : index.KeptTrails) (by : List ℕ) (fronts : List (ℕ × ℕ)) (rows : Levels) → Stands k h → MayPlace h j.header → by ≡ with_hider_of k.floor j.header k.hiders → k.floor + length k.hiders ≡ k.size
+stands_wider : (k : Kept) (h : History) (j : Entry) (reached : Bool) (ms : List Member) (t : index.KeptTrails) (by clued : List ℕ) (fronts : List (ℕ × ℕ)) (rows : Levels) → Stands k h → MayPlace h j.header → by ≡ with_hider_of k.floor j.header clued k.hiders → AreOfClue k.floor (journals h) j.header clued → k.floor + length k.hiders ≡ k.size
     → aged_members k.floor ms ≡ aged_members k.floor (members (wider h j)) → index.StandsForTrails t (clues_added k.floor (journals (wider h j)))
     → StandsFor sha256 rows (leaf_digests h ++ leaf_digest j ∷ [])
     → Stands (record k { reached = reached; size = k.size + 1; point = point_with j.header k.point; members = ms; clues = t; hiders = by; fronts = fronts; times = with_time_of k.size j.header k.times; headers = k.headers ++ j.header ∷ []; tree = rows }) (wider h j)
 unfolding model.seen_point model.id
-stands_wider k h j reached ms t by fronts rows s next hides all same clues leaves =
+stands_wider k h j reached ms t by clued fronts rows s next hides clued_are all same clues leaves =
     let e = journals_wider h j in
     let some = some_journal (journals h) s.lawful in
     let below : length (journals_of h.closed) ≤ model.size h = omega (arith, length-append (journals_of h.closed) h.waiting) in
@@ -221,7 +222,7 @@ stands_wider k h j reached ms t by fronts rows s next hides all same clues leave
       };
       members = same;
       clues = clues;
-      hiders = subst (λ (l : List ℕ). TellHiders l k.floor (wider h j)) (sym hides) (hiders_more k.hiders k.floor h j s.lawful next s.hiders (all ∙ s.counts.size));
+      hiders = subst (λ (l : List ℕ). TellHiders l k.floor (wider h j)) (sym hides) (hiders_more k.hiders k.floor h j clued s.lawful next s.hiders (all ∙ s.counts.size) clued_are);
       times = times_more k h j s next ∙ ap (λ (js : List Entry). marks_from (point_with j.header k.point) (marks_of (drop k.floor js))) (sym e);
     }
 
@@ -252,7 +253,9 @@ AddsClue old new header = (a : Added) → clue_ok header.kind header.clue ≡ tr
 -- the lists with a header more
 pub record Grown (k : Kept) (hs : List Header) (by : List ℕ) (rows : Levels) (ends : List ℕ) (header : Header) (tip : Digest) : Type 0 where
   pub headers_are : hs ≡ k.headers ++ header ∷ []
-  pub hiders_are : by ≡ with_hider_of k.floor header k.hiders
+  pub clued : List ℕ
+  pub clued_are : AreClued k.clues header clued
+  pub hiders_are : by ≡ with_hider_of k.floor header clued k.hiders
   pub all : k.floor + length k.hiders ≡ k.size
   pub leaves_are : (ds : List (List ℕ)) → StandsFor sha256 k.tree ds → StandsFor sha256 rows (ds ++ tip.0 ∷ [])
   pub ends_are : ends ≡ k.ends
@@ -285,6 +288,11 @@ module _ (k : Kept) (h : History) (j : Entry) (header : Header) (s : Stands k h)
   low : k.floor ≤ model.size h
   low = omega (arith, s.counts.floor, length-append (journals_of h.closed) h.waiting)
 
+  -- the kept journals of the clue that it may name
+  clued_of : (clued : List ℕ) → AreClued k.clues header clued → AreOfClue k.floor (journals h) j.header clued
+  unfolding jsns_with
+  clued_of clued are = subst (λ (x : Header). AreOfClue k.floor (journals h) x clued) (sym is) (λ kind_is. told_kept k h header.link clued s (are kind_is))
+
   -- the tree with the journal's leaf
   leaf_more : (rows : Levels) (tip : Digest) → IsLeafOf header tip → ((ds : List (List ℕ)) → StandsFor sha256 k.tree ds → StandsFor sha256 rows (ds ++ tip.0 ∷ [])) → StandsFor sha256 rows (leaf_digests h ++ leaf_digest j ∷ [])
   leaf_more rows tip tip_is more =
@@ -299,7 +307,7 @@ module _ (k : Kept) (h : History) (j : Entry) (header : Header) (s : Stands k h)
       let told = adds (clues_added k.floor (journals h)) next.layout.clue next.layout.clue_ord s.clues (omega (arith, low, next.jsn)) (subst (λ n. All (λ (m : Mark). m.jsn < n) (clues_added k.floor (journals h)).marks) (sym next.jsn) (marks_below k.floor (journals h) s.lawful)) in
       let clues : index.StandsForTrails t (clues_added k.floor (journals (wider h j))) = subst (index.StandsForTrails t) (ap (λ (x : Header). with_clue_of x (clues_added k.floor (journals h))) (sym is) ∙ wider_clues k.floor h j) told in
       grown k (wider h j) j reached point k.members t by fronts times hs rows ends header is at timed more.headers_are more.ends_are
-      (stands_wider k h j reached k.members t by fronts rows s placing (more.hiders_are ∙ ap (λ (x : Header). with_hider_of k.floor x k.hiders) (sym is)) more.all (s.members ∙ ap (aged_members k.floor) (sym (wider_members_same h j some_yet kind_is))) clues (leaf_more rows tip more.tip_is more.leaves_are))
+      (stands_wider k h j reached k.members t by more.clued fronts rows s placing (more.hiders_are ∙ ap (λ (x : Header). with_hider_of k.floor x more.clued k.hiders) (sym is)) (clued_of more.clued more.clued_are) more.all (s.members ∙ ap (aged_members k.floor) (sym (wider_members_same h j some_yet kind_is))) clues (leaf_more rows tip more.tip_is more.leaves_are))
 
   -- a new member
   pub stands_member : (ms : List Member) (by : List ℕ) (hs : List Header) (rows : Levels) (ends : List ℕ) (tip : Digest) → header.kind ≡ kind.Member → ms ≡ k.members ++ record { key = header.link; jsn = header.jsn } ∷ []
@@ -315,7 +323,7 @@ module _ (k : Kept) (h : History) (j : Entry) (header : Header) (s : Stands k h)
       let timed : k.times ≡ with_time_of k.size header k.times = sym (ap (λ (x : Kind). cond (is_time x) (k.times ++ record { jsn = k.size; index = header.a; time = header.b } ∷ []) (cond (is_purge x) (marks_from header.a k.times) k.times)) member) in
       let at : k.point ≡ point_with header k.point = sym (ap (λ (x : Kind). cond (is_purge x) header.a k.point) member) in
       grown k (wider h j) j k.reached k.point ms k.clues by k.fronts k.times hs rows ends header is at timed more.headers_are more.ends_are
-      (stands_wider k h j k.reached ms k.clues by k.fronts rows s placing (more.hiders_are ∙ ap (λ (x : Header). with_hider_of k.floor x k.hiders) (sym is)) more.all joined (subst (index.StandsForTrails k.clues) same s.clues) (leaf_more rows tip more.tip_is more.leaves_are))
+      (stands_wider k h j k.reached ms k.clues by more.clued k.fronts rows s placing (more.hiders_are ∙ ap (λ (x : Header). with_hider_of k.floor x more.clued k.hiders) (sym is)) (clued_of more.clued more.clued_are) more.all joined (subst (index.StandsForTrails k.clues) same s.clues) (leaf_more rows tip more.tip_is more.leaves_are))
 
 -- more room for the tree changes nothing
 pub as_before_stands : (old new : Kept) (h : History) → IsAsBefore old new → Stands old h → Stands new h

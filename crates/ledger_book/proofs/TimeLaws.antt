@@ -65,6 +65,7 @@ risen h x p kind.Content le own = omega arith
 risen h x p kind.Member le own = omega arith
 risen h x p kind.Time le own = omega arith
 risen h x p kind.Occult le own = omega arith
+risen h x p kind.ClueOccult le own = omega arith
 risen h x p kind.Purge le own = let above : greatest_point (journals h) < x.a = own.above in omega (arith, le, above)
 
 pub point_more : (k : Kept) (h : History) (j : Entry) → Stands k h → MayPlace h j.header → point_with j.header k.point ≡ greatest_point (drop k.floor (journals h) ++ j ∷ [])
@@ -106,6 +107,7 @@ times_by h x n p kind.Content ms le own new is = sym is
 times_by h x n p kind.Member ms le own new is = sym is
 times_by h x n p kind.Time ms le own new is = sym is
 times_by h x n p kind.Occult ms le own new is = sym is
+times_by h x n p kind.ClueOccult ms le own new is = sym is
 times_by h x n p kind.Purge ms le own new is = let above : greatest_point (journals h) < x.a = own.above in kept_again p x.a ms (omega (arith, le, above)) ∙ sym is
 
 -- the kept marks are below the next number
@@ -127,6 +129,7 @@ risen_below h x p kind.Content lt own = lt
 risen_below h x p kind.Member lt own = lt
 risen_below h x p kind.Time lt own = lt
 risen_below h x p kind.Occult lt own = lt
+risen_below h x p kind.ClueOccult lt own = lt
 risen_below h x p kind.Purge lt own = own.before
 
 pub times_more : (k : Kept) (h : History) (j : Entry) → Stands k h → MayPlace h j.header → with_time_of k.size j.header k.times ≡ marks_from (point_with j.header k.point) (marks_of (drop k.floor (journals h ++ j ∷ [])))

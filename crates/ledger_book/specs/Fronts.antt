@@ -26,3 +26,4 @@ AddsFront kind.Member floor x old new = new ≡ old
 AddsFront kind.Time floor x old new = new ≡ old
 AddsFront kind.Occult floor x old new = (x.a < floor → Puts old new x.a x.jsn) × (floor ≤ x.a → new ≡ old)
 AddsFront kind.Purge floor x old new = x.a ≢ floor → new ≡ old
+AddsFront kind.ClueOccult floor x old new = new ≡ old

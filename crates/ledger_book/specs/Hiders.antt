@@ -1,8 +1,13 @@
 -- Which journals hide the contents of others: one number for each kept journal, of the one that hides it, or 0.
-use Rattle.std.specs.Prelude.{◌≡◌, ℕ, ◌-◌, ◌≤◌, ◌==◌, ◌&&◌, ◌++◌, if◌then◌else◌, List, [], ◌∷◌, get_or, set, nat_le, Option, Some, None}
+use Rattle.std.specs.Prelude.{◌≡◌, ℕ, ◌-◌, ◌≤◌, ◌==◌, ◌++◌, if◌then◌else◌, List, [], ◌∷◌, get_or, set, nat_le, Option, Some, None}
+use Rattle.clue_index.specs.Added.{Added, trail_of}
+use Rattle.clue_index.specs.Index as index
+use Rattle.clue_index.specs.Trail.{kept_from}
 use Rattle.journal_record.specs.declared.header.Header.{Header}
+use Rattle.journal_record.specs.declared.header.Kind.{Kind}
+use Rattle.journal_record.specs.declared.header.Kind.TheVariants as kind
 use Rattle.ledger_model.specs.History.{History}
-use Rattle.ledger_model.specs.Targets.{is_occult, hider}
+use Rattle.ledger_model.specs.Targets.{hider}
 
 -- the journal that a number tells: 0 tells none, since journal 0 hides nothing
 abbrev pub told_hider : ℕ → Option ℕ
@@ -21,10 +26,23 @@ TellHiders numbers floor h = (n : ℕ) → floor ≤ n → hider_in floor number
 abbrev pub hidden_at : ℕ → ℕ → List ℕ → List ℕ
 hidden_at place jsn numbers = if get_or numbers place 0 == 0 then set numbers place jsn else numbers
 
--- the numbers once a journal with this header hides its target, where it is an occult and its target is one of them
-abbrev pub with_target_of : ℕ → Header → List ℕ → List ℕ
-with_target_of floor x numbers = if is_occult x.kind && nat_le floor x.a then hidden_at (x.a - floor) x.jsn numbers else numbers
+-- the numbers, which begin at the floor, once this journal hides each of some others
+abbrev pub hidden_all : ℕ → ℕ → List ℕ → List ℕ → List ℕ
+hidden_all floor jsn [] numbers = numbers
+hidden_all floor jsn (target ∷ targets) numbers = hidden_all floor jsn targets (hidden_at (target - floor) jsn numbers)
 
--- the numbers with a journal more, which none hides: it may hide one of them
-abbrev pub with_hider_of : ℕ → Header → List ℕ → List ℕ
-with_hider_of floor x numbers = with_target_of floor x (numbers ++ 0 ∷ [])
+-- the kept journals that one of this kind hides, where these are the kept ones of the clue that it names: an occult hides its target,
+-- an occult by clue those of its clue, and no other kind any
+abbrev pub targets_as : Kind → ℕ → Header → List ℕ → List ℕ
+targets_as kind.Occult floor x clued = if nat_le floor x.a then x.a ∷ [] else []
+targets_as kind.ClueOccult floor x clued = clued
+targets_as other floor x clued = []
+
+-- the numbers with a journal more, which none hides: it may hide some of them
+abbrev pub with_hider_of : ℕ → Header → List ℕ → List ℕ → List ℕ
+with_hider_of floor x clued numbers = hidden_all floor x.jsn (targets_as x.kind floor x clued) (numbers ++ 0 ∷ [])
+
+-- these are the kept journals of the clue that an occult by clue names, as an index of clues tells them
+abbrev pub AreClued : index.KeptTrails → Header → List ℕ → Type 0
+AreClued clues x clued =
+    x.kind ≡ kind.ClueOccult → (a : Added) → index.StandsForTrails clues a → clued ≡ kept_from a.floor (trail_of a x.link.0)

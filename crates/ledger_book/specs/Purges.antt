@@ -37,6 +37,7 @@ point_after (asked.Append member clue content content_digest request by who numb
 point_after (asked.NewMember number key by) told point = point
 point_after asked.Anchor told point = point
 point_after (asked.Occult target leaf given) told point = point
+point_after (asked.OccultClue clue count given) told point = point
 point_after (asked.Purge p root given) told point = point_of p told point
 point_after (asked.Get n) told point = point
 point_after (asked.Prove n) told point = point

@@ -1,5 +1,5 @@
 -- What a book keeps of a base and of the journals behind it, where no history of them is known.
-use Rattle.std.specs.Prelude.{◌≡◌, ◌<◌, ◌≤◌, ℕ, false, List, [], map, Option, Some, None, ⊤, length}
+use Rattle.std.specs.Prelude.{◌≡◌, ◌-◌, ◌<◌, ◌≤◌, ℕ, slice_get, false, List, [], map, Option, Some, None, ⊤, length}
 use Rattle.std.specs.List.{list_any}
 use Rattle.std.specs.Option.{is_some}
 use Rattle.sha2.specs.Sha256.{sha256}
@@ -14,7 +14,8 @@ use Rattle.ledger_model.specs.History.{History, journals, size, greatest_point, 
 use Rattle.ledger_model.specs.Lawful.{AreLawful}
 use Rattle.pseudo_genesis.specs.Bases.{IsBase}
 use Rattle.pseudo_genesis.specs.declared.base.Base.{Base}
-use Rattle.ledger_model.specs.Behind.{AreBehind, first_of, count_behind, clues_behind, has_own_purge, next_number, names}
+use Rattle.ledger_model.specs.Targets.{names, is_hidden_by}
+use Rattle.ledger_model.specs.Behind.{AreBehind, first_of, count_behind, clues_behind, has_own_purge, next_number}
 use Rattle.ledger_book.specs.Books.{Kept}
 use Rattle.ledger_book.specs.Fronts.{namer_in}
 use Rattle.ledger_book.specs.Hiders.{hider_in}
@@ -44,7 +45,7 @@ pub record StandsBehind (k : Kept) (start : Option Base) (journals : List Entry)
   pub reached : k.reached ≡ has_own_purge start journals
   pub members : length k.members ≡ count_behind start journals
   pub clues : index.StandsForTrails k.clues (clues_behind start journals)
-  pub hiders : (n : ℕ) → first_of start ≤ n → is_some (hider_in k.floor k.hiders n) ≡ list_any (names n) journals
+  pub hiders : (n : ℕ) → first_of start ≤ n → is_some (hider_in k.floor k.hiders n) ≡ is_hidden_by journals (slice_get journals (n - first_of start))
   -- of those in front of the base, until the purge to its point is there
   pub fronts : k.reached ≡ false → (n : ℕ) → n < first_of start → is_some (namer_in n k.fronts) ≡ list_any (names n) journals
   pub headers_are : k.headers ≡ map (λ journal. journal.header) journals

@@ -88,7 +88,7 @@ fn plain_header(kind: Kind, jsn: u64, a: u64, b: u64, link: &Digest, who_digest:
         → result ≡ headers.plain_header kind jsn a b link.now who }
 {
     Header {
-        version: 1,
+        version: version_of(kind, a, 0),
         kind,
         jsn,
         member: 0,
@@ -119,6 +119,15 @@ pub(crate) fn occult_header(jsn: u64, target: u64, leaf: &Digest, given: &[Appro
     ensures { result ≡ appends.occult_header jsn target leaf.now given.now }
 {
     plain_header(Kind::Occult, jsn, target, 0, leaf, approvals_digest(given))
+}
+
+/// The header of an occult of the `count` records of a clue that is journal `jsn`.
+pub(crate) fn clue_occult_header(jsn: u64, clue: &Digest, count: u32, given: &[Approval]) -> Header
+    requires { All (λ a. length a.proof < 2 ^ 16) given.now }
+    ensures { result ≡ appends.clue_occult_header jsn clue.now count given.now }
+{
+    let who = approvals_digest(given);
+    plain_header(Kind::ClueOccult, jsn, u64::from(count), 0, clue, who)
 }
 
 /// The header of a purge of all journals in front of `point` that is journal `jsn`, where the base at its point has this

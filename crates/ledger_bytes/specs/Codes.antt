@@ -1,7 +1,7 @@
 -- The codes by which replies name refusals.
 use Rattle.std.specs.Prelude.{ℕ}
 use Rattle.ledger_bytes.specs.declared.refusal.Refusal.{Refusal}
-use Rattle.ledger_bytes.specs.declared.refusal.Refusal.TheVariants.{BadVerb, BadField, BadLane, Damaged, UnknownMember, WrongKey, MissingApproval, ApprovalOrder, MemberNumber, MembersFull, NoJournal, Purged, NotData, NotTime, AlreadyOcculted, LeafDiffers, RootDiffers, NotaryFault, NotaryFull, Full, BadSize, CluesFull, NumberTaken}
+use Rattle.ledger_bytes.specs.declared.refusal.Refusal.TheVariants.{BadVerb, BadField, BadLane, Damaged, UnknownMember, WrongKey, MissingApproval, ApprovalOrder, MemberNumber, MembersFull, NoJournal, Purged, NotData, NotTime, AlreadyOcculted, LeafDiffers, RootDiffers, NotaryFault, NotaryFull, Full, BadSize, CluesFull, NumberTaken, ClueDiffers, NothingToHide}
 
 -- the number by which replies name a refusal
 abbrev pub refusal_code : Refusal → ℕ
@@ -28,3 +28,5 @@ refusal_code (Full kept size) = 29
 refusal_code (BadSize size) = 33
 refusal_code CluesFull = 42
 refusal_code (NumberTaken jsn) = 48
+refusal_code (ClueDiffers count) = 49
+refusal_code NothingToHide = 50

@@ -1,7 +1,7 @@
 -- The byte in front of what is hashed, by its kind.
 use Rattle.std.specs.Prelude.{ℕ}
 use Rattle.ledger_bytes.specs.declared.tag.Tag.{Tag}
-use Rattle.ledger_bytes.specs.declared.tag.Tag.TheVariants.{Leaf, Node, Content, AppendRequest, OccultRequest, PurgeRequest, Peg, Base, MemberRequest, Salt, Who, LedgerName, ClueName, Proof, ChainKey, ChainStep, ChainSecret}
+use Rattle.ledger_bytes.specs.declared.tag.Tag.TheVariants.{Leaf, Node, Content, AppendRequest, OccultRequest, PurgeRequest, Peg, Base, MemberRequest, Salt, Who, LedgerName, ClueName, ClueOccultRequest, Proof, ChainKey, ChainStep, ChainSecret}
 
 -- the byte of each kind of string; those of a leaf and of an inner node are RFC 6962's. `tags_differ` says that no two are the
 -- same
@@ -19,6 +19,7 @@ byte_of Salt = 9
 byte_of Who = 10
 byte_of LedgerName = 11
 byte_of ClueName = 12
+byte_of ClueOccultRequest = 13
 byte_of Proof = 64
 byte_of ChainKey = 65
 byte_of ChainStep = 66

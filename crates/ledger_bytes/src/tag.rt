@@ -34,6 +34,8 @@ pub enum Tag {
     LedgerName,
     /// Byte 0C: a clue's name.
     ClueName,
+    /// Byte 0D: a request to occult all journals of a clue.
+    ClueOccultRequest,
     /// Byte 40: a key and the message that it proves.
     Proof,
     /// Byte 41: the root over the one-time keys of a scheme of hash chains.
@@ -63,6 +65,7 @@ impl Tag {
             Tag::Who => 0x0a,
             Tag::LedgerName => 0x0b,
             Tag::ClueName => 0x0c,
+            Tag::ClueOccultRequest => 0x0d,
             Tag::Proof => 0x40,
             Tag::ChainKey => 0x41,
             Tag::ChainStep => 0x42,

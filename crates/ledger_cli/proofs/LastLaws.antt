@@ -1,15 +1,16 @@
--- Where the last journal of a history is neither an occult nor a purge, nothing is left undone behind it.
-use Rattle.std.specs.Prelude.{◌-◌, ◌==◌, ◌&&◌, get_or}
+-- Where the last journal of a history is neither an occult, of one record or of a clue's, nor a purge, nothing is left undone behind it.
+use Rattle.std.specs.Prelude.{◌-◌, get_or}
 use Rattle.std.proofs.Common.{◌≡◌, ℕ, ◌<◌, inl, inr, Bool, false, cond, List, [], ◌∷◌, ◌++◌, length, length-append, map, take, slice_get, Some, refl, ap, sym, ◌∙◌, arith}
 use Rattle.std.proofs.lemmas.Bool.{true≢false}
 use Rattle.std.proofs.lemmas.List.{take_at}
 use Rattle.batch_committer.specs.World.{IsErasedPair}
 use Rattle.journal_record.specs.Entry.{Entry}
+use Rattle.journal_record.specs.declared.header.Header.{Header}
 use Rattle.journal_record.specs.declared.header.Kind.{Kind}
 use Rattle.journal_record.specs.declared.header.Kind.TheVariants as kind
 use Rattle.ledger_model.specs.History.{History, journals, size, point, greatest_point, is_purge}
 use Rattle.ledger_model.specs.Lawful.{AreLawful}
-use Rattle.ledger_model.specs.Targets.{is_occult, kind_at}
+use Rattle.ledger_model.specs.Targets.{hides_as, kind_at}
 use Rattle.ledger_model.proofs.PlaceLaws.{point_same}
 use Rattle.ledger_open.specs.Erasing.{is_given_up}
 use Rattle.ledger_open.specs.Standing.{PairOpen, point_before}
@@ -27,14 +28,16 @@ no_purge kind.Member is = refl
 no_purge kind.Time is = refl
 no_purge kind.Occult is = refl
 no_purge kind.Purge is = absurd (true≢false is)
+no_purge kind.ClueOccult is = absurd (true≢false is)
 
-no_occult : (k : Kind) → is_erasure k ≡ false → is_occult k ≡ false
-no_occult kind.Genesis is = refl
-no_occult kind.Content is = refl
-no_occult kind.Member is = refl
-no_occult kind.Time is = refl
-no_occult kind.Occult is = absurd (true≢false is)
-no_occult kind.Purge is = refl
+no_occult : (k : Kind) → is_erasure k ≡ false → (x target : Header) → hides_as k x target ≡ false
+no_occult kind.Genesis is x target = refl
+no_occult kind.Content is x target = refl
+no_occult kind.Member is x target = refl
+no_occult kind.Time is x target = refl
+no_occult kind.Occult is x target = absurd (true≢false is)
+no_occult kind.Purge is x target = absurd (true≢false is)
+no_occult kind.ClueOccult is x target = absurd (true≢false is)
 
 -- ---- the last of some journals
 
@@ -81,7 +84,7 @@ module _ (h : History) (l : HasLast (journals h)) (none : ends_in_erasure h ≡ 
   last_at = ap (λ (js : List Entry). slice_get js (size h - 1)) l.is ∙ ap (λ n. slice_get (l.before ++ l.last ∷ []) n) at ∙ got_last l.before l.last
 
   none_given : AreLawful (journals h) → (n : ℕ) → is_given_up h n ≡ false
-  none_given lawful n = given_only h lawful l.last last_at n (ap (λ (v : Bool). v && l.last.header.a == n) (no_occult l.last.header.kind plain))
+  none_given lawful n = given_only h lawful l.last last_at n (λ e numbered. no_occult l.last.header.kind plain l.last.header e.header)
 
   erased_pair : (a b : List ℕ) → PairOpen a b h → IsErasedPair a b h
   erased_pair a b p = record {

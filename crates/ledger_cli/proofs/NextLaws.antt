@@ -14,7 +14,7 @@ use Rattle.journal_record.specs.declared.stamp.Stamp.{Stamp}
 use Rattle.ledger_bytes.specs.declared.limits.TheConstants.{BLOCK_LIMIT}
 use Rattle.ledger_bytes.specs.declared.refusal.Refusal.{Refusal}
 use Rattle.ledger_model.specs.Anchors.{stamp_of, time_header, time_journal}
-use Rattle.ledger_model.specs.Appends.{occult_header, occult_journal, purge_header, purge_journal}
+use Rattle.ledger_model.specs.Appends.{occult_header, occult_journal, clue_occult_header, clue_occult_journal, purge_header, purge_journal}
 use Rattle.ledger_model.specs.Ends.{ends_from}
 use Rattle.ledger_model.specs.Growing.{Grows}
 use Rattle.ledger_model.specs.History.{History, history, close, close_by, ends, journals, journals_of, size}
@@ -25,7 +25,7 @@ use Rattle.ledger_model.specs.Outcomes.{after_judgement, placed_journal, with_jo
 use Rattle.ledger_model.specs.Rules.{after_job}
 use Rattle.ledger_model.specs.Step.{Step}
 use Rattle.ledger_model.specs.declared.job.Job.{Job}
-use Rattle.ledger_model.specs.declared.job.Job.TheVariants.{Refused, Append, NewMember, Anchor, Occult, Purge, Get, Prove, Extend, Clue, Head}
+use Rattle.ledger_model.specs.declared.job.Job.TheVariants.{Refused, Append, NewMember, Anchor, Occult, OccultClue, Purge, Get, Prove, Extend, Clue, Head}
 use Rattle.ledger_model.proofs.EndLaws.{ends_split}
 use Rattle.ledger_model.proofs.GrowLaws.{close_none, close_settled, grows_close, grows_not, grows_then, journals_of-push, size_close}
 use Rattle.ledger_book.specs.Books.{headers}
@@ -161,6 +161,10 @@ occult_alone : (jsn target : ℕ) (leaf : Digest) (given : List Approval) → ga
 unfolding occult_header
 occult_alone jsn target leaf given = refl
 
+clue_occult_alone : (jsn : ℕ) (clue : Digest) (count : ℕ) (given : List Approval) → gathers (clue_occult_journal jsn clue count given).header.kind ≡ false
+unfolding clue_occult_header
+clue_occult_alone jsn clue count given = refl
+
 purge_alone : (h : History) (p : ℕ) (given : List Approval) → gathers (purge_journal h p given).header.kind ≡ false
 unfolding purge_header
 purge_alone h p given = refl
@@ -181,6 +185,7 @@ next_job h step Anchor = next_own (own_refusal real_limits (close h) Anchor) (op
     by None e is = absurd (let no : ⊥ = cc is in no)
     by (Some s) e is = kind_as (time_journal (size (close h)) s) e (time_alone (size (close h)) s) is
 next_job h step (Occult target leaf given) = next_own (own_refusal real_limits (close h) (Occult target leaf given)) (Some (occult_journal (size (close h)) target leaf given)) h (λ e is. kind_as (occult_journal (size (close h)) target leaf given) e (occult_alone (size (close h)) target leaf given) is)
+next_job h step (OccultClue clue count given) = next_own (own_refusal real_limits (close h) (OccultClue clue count given)) (Some (clue_occult_journal (size (close h)) clue count given)) h (λ e is. kind_as (clue_occult_journal (size (close h)) clue count given) e (clue_occult_alone (size (close h)) clue count given) is)
 next_job h step (Purge p told given) = next_own (own_refusal real_limits (close h) (Purge p told given)) (Some (purge_journal (close h) p given)) h (λ e is. kind_as (purge_journal (close h) p given) e (purge_alone (close h) p given) is)
 next_job h step (Get n) = next_read (own_refusal real_limits (close h) (Get n)) h _
 next_job h step (Prove n) = next_read (own_refusal real_limits (close h) (Prove n)) h _

@@ -9,17 +9,18 @@ use Rattle.ledger_model.specs.Targets.{kind_at}
 use Rattle.ledger_open.specs.Standing.{IsCleanPair}
 use Rattle.script_lines.specs.Receipts.{IsReceipted}
 
--- a journal of this kind takes away what others hold: an occult, or a purge
+-- a journal of this kind takes away what others hold: an occult, of one record or of a clue's, or a purge
 abbrev pub is_erasure : Kind → Bool
 is_erasure kind.Occult = true
+is_erasure kind.ClueOccult = true
 is_erasure kind.Purge = true
 is_erasure other = false
 
--- the last journal of a history is an occult or a purge
+-- the last journal of a history is an occult, of one record or of a clue's, or a purge
 abbrev pub ends_in_erasure : History → Bool
 ends_in_erasure h = is_erasure (kind_at h (size h - 1))
 
--- The last journal of this history is an occult or a purge, which was placed on the way from h, and no receipt of it was
+-- The last journal of this history is such an occult or a purge, which was placed on the way from h, and no receipt of it was
 -- written whole. So what it takes away may still stand in the files.
 pub record IsUnreceipted (h kept : History) (replies : List ℕ) : Type 0 where
   pub erases : ends_in_erasure kept ≡ true

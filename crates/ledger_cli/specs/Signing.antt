@@ -5,13 +5,13 @@ use Rattle.std.specs.Str.{bytes_eq}
 use Rattle.hex.specs.Hex.{encode_lower}
 use Rattle.ledger_bytes.specs.declared.digest.Digest.{Digest}
 use Rattle.journal_record.specs.Entry.{content_digest_of}
-use Rattle.journal_record.specs.Request.{clue_digest_of, member_request_digest_of, occult_request_digest_of, purge_request_digest_of, request_digest_of}
+use Rattle.journal_record.specs.Request.{clue_digest_of, clue_occult_request_digest_of, member_request_digest_of, occult_request_digest_of, purge_request_digest_of, request_digest_of}
 use Rattle.journal_record.specs.Tags.{tag_proof_of}
 use Rattle.ledger_bytes.specs.Digests.{digest}
 use Rattle.ledger_bytes.specs.declared.limits.TheConstants.{CONTENT_LIMIT}
-use Rattle.script_lines.specs.Spellings.{◌>>=◌, bytes_of, clue_of, digest_of, number_of, request_number_of}
+use Rattle.script_lines.specs.Spellings.{◌>>=◌, bytes_of, clue_of, count_of, digest_of, number_of, request_number_of}
 use Rattle.ledger_cli.specs.declared.signing.Request.{Request}
-use Rattle.ledger_cli.specs.declared.signing.Request.TheVariants.{Append, NewMember, Occult, Purge}
+use Rattle.ledger_cli.specs.declared.signing.Request.TheVariants.{Append, NewMember, Occult, OccultClue, Purge}
 use Rattle.ledger_cli.specs.declared.signing.Signing.{Signing}
 
 -- the message that approves a request on the ledger with this id
@@ -19,6 +19,7 @@ abbrev pub message_for : List ℕ → Request → List ℕ
 message_for id (Append member clue content_len content_digest number) = request_digest_of id member clue.0 content_len content_digest.0 number
 message_for id (NewMember number key) = member_request_digest_of id number key.0
 message_for id (Occult target leaf) = occult_request_digest_of id target leaf.0
+message_for id (OccultClue clue count) = clue_occult_request_digest_of id clue.0 count
 message_for id (Purge point root) = purge_request_digest_of id point root.0
 
 -- the message of the request that `sign` was given
@@ -75,6 +76,14 @@ member_from words = option_map (λ numbered. NewMember numbered.0 numbered.1) (n
 unfoldable pub occult_from : List (List ℕ) → Option Request
 occult_from words = option_map (λ numbered. Occult numbered.0 numbered.1) (numbered_digest (2 ^ 64 - 1) words)
 
+-- the request of the words behind `occultclue`: `NAME COUNT`
+unfoldable pub clue_occult_from : List (List ℕ) → Option Request
+clue_occult_from (name_word ∷ count_word ∷ []) = do
+  name ← clue_of_word name_word
+  count ← count_of count_word
+  Some (OccultClue (digest (clue_digest_of name)) count)
+clue_occult_from words = None
+
 -- the request of the words behind `purge`: `POINT ROOT`
 unfoldable pub purge_from : List (List ℕ) → Option Request
 purge_from words = option_map (λ numbered. Purge numbered.0 numbered.1) (numbered_digest (2 ^ 64 - 1) words)
@@ -85,5 +94,6 @@ request_of verb words =
     if bytes_eq verb (codes "append") then append_from words
     else if bytes_eq verb (codes "member") then member_from words
     else if bytes_eq verb (codes "occult") then occult_from words
+    else if bytes_eq verb (codes "occultclue") then clue_occult_from words
     else if bytes_eq verb (codes "purge") then purge_from words
     else None

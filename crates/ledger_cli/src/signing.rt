@@ -1,16 +1,16 @@
 //! The command `sign`: a member's request, and the message and the proof that are written for it.
 
 ghost use Rattle.std.specs.Prelude.{◌≡◌, ◌≤◌, ◌+◌, ◌*◌, length, map, string_bytes, option_map, IfOk, IfSome, OnErr, IsSome};
-ghost use Rattle.ledger_cli.specs.Signing.{append_from, member_from, occult_from, purge_from, clue_of_word, hex_line, number_behind, numbered_digest, request_of};
+ghost use Rattle.ledger_cli.specs.Signing.{append_from, member_from, occult_from, clue_occult_from, purge_from, clue_of_word, hex_line, number_behind, numbered_digest, request_of};
 
 use journal_record::{
-    clue_digest, content_digest, member_request_digest, occult_request_digest,
-    purge_request_digest, request_digest,
+    clue_digest, clue_occult_request_digest, content_digest, member_request_digest,
+    occult_request_digest, purge_request_digest, request_digest,
 };
 use ledger_bytes::{CONTENT_LIMIT, Digest, NoMemory};
 use member_book::tag_proof;
 use script_lines::{
-    is_bytes, read_bytes, read_clue, read_digest, read_number, read_request_number,
+    is_bytes, read_bytes, read_clue, read_count, read_digest, read_number, read_request_number,
 };
 use std::alloc::Global;
 
@@ -53,6 +53,13 @@ pub enum Request {
         /// The digest of its leaf.
         leaf: Digest,
     },
+    /// All records of a clue are to be occulted: `occultclue NAME COUNT`.
+    OccultClue {
+        /// The clue's digest, 32 zero bytes where there is no clue.
+        clue: Digest,
+        /// How many records the clue has, 1 or more.
+        count: u32,
+    },
     /// All journals below a point are to be purged: `purge POINT ROOT`.
     Purge {
         /// The point.
@@ -80,6 +87,7 @@ impl Signing {
             } => request_digest(id, *member, clue, *content_len, content_digest, *number),
             Request::NewMember { number, key } => member_request_digest(id, *number, key),
             Request::Occult { target, leaf } => occult_request_digest(id, *target, leaf),
+            Request::OccultClue { clue, count } => clue_occult_request_digest(id, clue, *count),
             Request::Purge { point, root } => purge_request_digest(id, *point, root),
         }
     }
@@ -125,6 +133,8 @@ pub(crate) fn read_request(
         Ok(read_member(fields))
     } else if verb == b"occult".as_slice() {
         Ok(read_occult(fields))
+    } else if verb == b"occultclue".as_slice() {
+        Ok(read_clue_occult(fields))
     } else if verb == b"purge".as_slice() {
         Ok(read_purge(fields))
     } else {
@@ -205,6 +215,21 @@ fn read_occult(fields: &[String]) -> Option<Request>
 {
     let (target, leaf) = read_numbered(fields, u64::MAX)?;
     Some(Request::Occult { target, leaf })
+}
+
+#[tactic(auto, unfolding(crate::specs::Signing::clue_occult_from))]
+fn read_clue_occult(fields: &[String]) -> Option<Request>
+    ensures { result ≡ clue_occult_from (map string_bytes fields.now) }
+{
+    let [name, count] = fields else {
+        return None;
+    };
+    let name = read_clue_word(name.as_bytes())?;
+    let count = read_count(count.as_bytes())?;
+    Some(Request::OccultClue {
+        clue: clue_digest(name),
+        count,
+    })
 }
 
 #[tactic(auto, unfolding(crate::specs::Signing::purge_from))]

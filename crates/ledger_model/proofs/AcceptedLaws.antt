@@ -1,11 +1,11 @@
 -- An accepted job places the next journal, and its parts have their digests.
-use Rattle.std.specs.Prelude.{IsTrue, nat_lt, nat_le, bytes_eq, ◌==◌}
+use Rattle.std.specs.Prelude.{IsTrue, nat_lt, nat_le, bytes_eq, filter, ◌==◌, ◌≢◌}
 use Rattle.std.proofs.Common.{◌≡◌, ℕ, ◌+◌, ◌<◌, ◌≤◌, ◌&&◌, ◌||◌, Bool, true, false, cond, not, List, [], ◌∷◌, length, ◌++◌, map, get_or, drop, Option, Some, None, refl, sym, ◌∙◌, ap, arith}
-use Rattle.std.proofs.lemmas.Bool.{eqb-true, eq-eqb, le-leb, lt-leb, lt-ltb, leb-false, ltb-true, ltb-false, true≢false, and_from}
+use Rattle.std.proofs.lemmas.Bool.{eqb-true, eq-eqb, le-leb, lt-leb, lt-ltb, leb-false, ltb-true, ltb-false, true≢false, and_from, and_parts}
 use Rattle.std.proofs.lemmas.List.{length-map}
 use Rattle.std.proofs.lemmas.Slice.Eq.{bytes_eq-Decides}
 use Rattle.std.specs.Option.{is_some}
-use Rattle.ledger_bytes.specs.Digests.{digest}
+use Rattle.ledger_bytes.specs.Digests.{digest, zero_digest}
 use Rattle.ledger_bytes.specs.declared.digest.Digest.{Digest}
 use Rattle.ledger_bytes.specs.declared.limits.TheConstants.{MEMBER_LIMIT, CONTENT_LIMIT}
 use Rattle.ledger_bytes.specs.declared.refusal.Refusal.{Refusal}
@@ -18,28 +18,28 @@ use Rattle.journal_record.specs.declared.approval.Approval.{Approval}
 use Rattle.journal_record.specs.declared.header.Header.{Header}
 use Rattle.journal_record.specs.declared.header.Kind.{Kind}
 use Rattle.journal_record.specs.declared.header.Kind.TheVariants as kind
-use Rattle.member_book.specs.Erasures.{absent, purged, purged_up_to, is_record, no_record, is_time, no_time, hidden_by, other_leaf, other_root, target_row, point_row}
+use Rattle.member_book.specs.Erasures.{absent, purged, purged_up_to, is_record, no_record, is_time, no_time, hidden_by, other_leaf, other_root, clue_differs, nothing_shown, target_row, point_row}
 use Rattle.member_book.specs.Approvals.{approvals_refusal}
 use Rattle.journal_record.specs.declared.member.Member.{Member}
 use Rattle.journal_record.specs.declared.rules.TheConstants.{NOTARY_LIMIT}
 use Rattle.journal_record.specs.declared.stamp.Stamp.{Stamp}
 use Rattle.ledger_model.specs.Anchors.{time_header, time_journal, stamp_from, stamp_of}
 use Rattle.ledger_model.specs.Step.{Step}
-use Rattle.ledger_model.specs.Appends.{append_header, append_journal, member_header, member_journal, occult_header, occult_journal, purge_header, purge_journal}
-use Rattle.ledger_model.specs.Clues.{jsns_with, clue_count, last_of, next_ordinal, last_journal}
+use Rattle.ledger_model.specs.Appends.{append_header, append_journal, member_header, member_journal, occult_header, occult_journal, clue_occult_header, clue_occult_journal, purge_header, purge_journal}
+use Rattle.ledger_model.specs.Clues.{has_clue, is_of_clue, numbers_of, jsns_with, clue_count, last_of, next_ordinal, last_journal}
 use Rattle.ledger_model.specs.History.{History, history, journals, size, point, root}
-use Rattle.ledger_model.specs.Judgements.{kept_count, is_full, fullness, hard_fullness, life_fullness, unknown_in, wrong_key_in, clues_full, append_judgements, member_judgements, occult_judgements, purge_judgements}
+use Rattle.ledger_model.specs.Judgements.{kept_count, is_full, fullness, hard_fullness, life_fullness, unknown_in, wrong_key_in, clues_full, append_judgements, member_judgements, occult_judgements, clue_occult_judgements, purge_judgements}
 use Rattle.member_book.specs.Erasures.{first_refusal}
-use Rattle.ledger_model.specs.Lawful.{IsNextOccult, IsNextPurge, IsNext, AreLawful, IsWhole}
+use Rattle.ledger_model.specs.Lawful.{IsNextOccult, IsNextClueOccult, IsNextPurge, IsNext, AreLawful, IsWhole}
 use Rattle.ledger_model.specs.Limits.{real_limits, AreWithin}
 use Rattle.ledger_model.specs.Members.{members, keys}
 use Rattle.ledger_model.specs.Needs.{purge_needs}
 use Rattle.ledger_model.specs.Numbers.{numbered, number_taken, repeated, unless_repeated}
-use Rattle.ledger_model.specs.Targets.{hider, kind_at, leaf_at}
+use Rattle.ledger_model.specs.Targets.{is_hidden, hider, kind_at, leaf_at, shown_with}
 use Rattle.ledger_model.specs.declared.limits.Limits.{Limits}
 use Rattle.ledger_model.proofs.HideLaws.{hidden_is}
 use Rattle.ledger_model.proofs.RepeatLaws.{none_numbered}
-use Rattle.ledger_model.proofs.LawfulLaws.{lawful_from, genesis_first, some_journal, lawful_members, AreBetween, numbers_between, last_between}
+use Rattle.ledger_model.proofs.LawfulLaws.{lawful_from, genesis_first, some_journal, lawful_members, AreBetween, numbers_between, numbers_few, last_between}
 
 -- no refusal
 abbrev pub IsNone : Option Refusal → Type 0
@@ -140,6 +140,7 @@ module _ (limits : Limits) (within : AreWithin limits) (h : History) (member : �
     clue_prev = prev_ok h clue (between h clue lawful);
     a = refl;
     b = refl;
+    link = refl;
     content_len = le-leb (length content) CONTENT_LIMIT long;
   }
 
@@ -174,6 +175,7 @@ module _ (limits : Limits) (within : AreWithin limits) (h : History) (stamp : St
       clue_prev = refl;
       a = lt-ltb stamp.index NOTARY_LIMIT few;
       b = refl;
+      link = refl;
       content_len = refl;
     };
     jsn = refl;
@@ -188,6 +190,7 @@ record_is kind.Genesis is = absurd (true≢false (sym is))
 record_is kind.Member is = absurd (true≢false (sym is))
 record_is kind.Time is = absurd (true≢false (sym is))
 record_is kind.Occult is = absurd (true≢false (sym is))
+record_is kind.ClueOccult is = absurd (true≢false (sym is))
 record_is kind.Purge is = absurd (true≢false (sym is))
 
 none_hides : (o : Option ℕ) → IsNone (hidden_by o) → is_some o ≡ false
@@ -235,11 +238,82 @@ module _ (limits : Limits) (within : AreWithin limits) (h : History) (target : �
           clue_prev = refl;
           a = lt-ltb target (size h) own.before;
           b = refl;
+          link = refl;
           content_len = refl;
         };
         jsn = refl;
         below = let less = hard_room limits h rows.0 in omega (arith, less, within.size);
         own = record { kept = own.kept; before = own.before; target_is = own.target_is; shown = own.shown; leaf_is = own.leaf_is };
+      }
+
+-- an occult by clue that is accepted
+none_differs : (n count : ℕ) → IsNone (clue_differs n count) → n ≡ count
+none_differs n count is = eqb-true n count (if_not (n == count) _ is)
+
+some_shown : (ns : List ℕ) → IsNone (nothing_shown (length ns)) → ns ≢ []
+some_shown [] is = absurd cc
+some_shown (n ∷ ns) is = λ none. absurd cc
+
+-- .. names a clue with records: as many as it tells, of which one is kept and shown
+pub clue_own : (h : History) (x : Header) (count : ℕ) (more : List (Option Refusal)) → x.a ≡ count
+    → IsNone (first_refusal (clue_differs (length (jsns_with h x.link)) count ∷ nothing_shown (length (shown_with h x.link)) ∷ more))
+    → IsNextClueOccult h x
+clue_own h x count more told is =
+    let a = none_first (clue_differs (length (jsns_with h x.link)) count) _ is in
+    let b = none_first (nothing_shown (length (shown_with h x.link))) _ a.1 in
+    record { count = told ∙ sym (none_differs _ _ a.0); shown = some_shown (shown_with h x.link) b.0 }
+
+shown_some : (p : ℕ → Bool) (ns : List ℕ) → filter p ns ≢ [] → 0 < length ns
+shown_some p [] some = absurd (some refl)
+shown_some p (n ∷ ns) some = omega arith
+
+clue_is : (clue : Digest) (es : List Entry) → 0 < length (numbers_of clue es) → is_no_clue clue ≡ false
+clue_is clue [] some = absurd (omega (arith, some))
+clue_is clue (e ∷ es) some = elim (is_of_clue clue e) as (λ v. is_of_clue clue e ≡ v → 0 < length (map (λ (j : Entry). j.header.jsn) (cond v (e ∷ filter (is_of_clue clue) es) (filter (is_of_clue clue) es))) → is_no_clue clue ≡ false) [
+  | true ↦ λ is more.
+      let parts = and_parts (has_clue e) (bytes_eq clue.0 e.header.clue.0) is in
+      ap (λ (c : List ℕ). bytes_eq c zero_digest.0) ((bytes_eq-Decides clue.0 e.header.clue.0).0 parts.1) ∙ not_true (is_no_clue e.header.clue) parts.0
+  | false ↦ λ is more. clue_is clue es more
+] refl some where
+  not_true : (v : Bool) → not v ≡ true → v ≡ false
+  not_true true is = absurd (true≢false (sym is))
+  not_true false is = refl
+
+-- what such a journal tells keeps the rules of its layout
+pub clue_counts : (h : History) (clue : Digest) → shown_with h clue ≢ [] → 0 < length (jsns_with h clue)
+unfolding shown_with
+clue_counts h clue some = shown_some (λ n. nat_le (point h) n && not (is_hidden h n)) (jsns_with h clue) some
+
+module _ (limits : Limits) (within : AreWithin limits) (h : History) (clue : Digest) (count : ℕ) (given : List Approval) (judged : IsNone (first_refusal (clue_occult_judgements limits h clue count given))) where
+  pub clue_occult_own : IsNextClueOccult h (clue_occult_header (size h) clue count given)
+  unfolding clue_occult_header
+  clue_occult_own =
+      clue_own h (clue_occult_header (size h) clue count given) count (approvals_refusal (keys h) given (0 ∷ 1 ∷ []) ∷ []) refl (none_first (hard_fullness limits h) _ judged).1
+
+  pub clue_occult_next : AreLawful (journals h) → IsNext (history [] (journals h)) (clue_occult_journal (size h) clue count given).header
+  unfolding clue_occult_header point jsns_with shown_with
+  clue_occult_next lawful =
+      let rows = none_first (hard_fullness limits h) _ judged in
+      let room = hard_room limits h rows.0 in
+      let own = clue_occult_own in
+      let some = clue_counts h clue own.shown in
+      let few = numbers_few clue (journals h) in
+      record {
+        layout = record {
+          version = refl;
+          jsn = lt-ltb 0 (size h) (omega (arith, some_journal (journals h) lawful));
+          member = refl;
+          clue = refl;
+          clue_ord = refl;
+          clue_prev = refl;
+          a = and_from _ _ (lt-ltb 0 count (omega (arith, own.count, some))) (le-leb count 4_294_967_295 (omega (arith, own.count, few, room, within.size)));
+          b = refl;
+          link = ap not (clue_is clue (journals h) some);
+          content_len = refl;
+        };
+        jsn = refl;
+        below = omega (arith, room, within.size);
+        own = record { count = own.count; shown = own.shown };
       }
 
 -- a purge that is accepted
@@ -253,6 +327,7 @@ time_is kind.Genesis is = absurd (true≢false (sym is))
 time_is kind.Content is = absurd (true≢false (sym is))
 time_is kind.Member is = absurd (true≢false (sym is))
 time_is kind.Occult is = absurd (true≢false (sym is))
+time_is kind.ClueOccult is = absurd (true≢false (sym is))
 time_is kind.Purge is = absurd (true≢false (sym is))
 
 -- the first journal tells no time
@@ -306,6 +381,7 @@ module _ (limits : Limits) (within : AreWithin limits) (h : History) (p : ℕ) (
           clue_prev = refl;
           a = and_from _ _ (lt-ltb 0 p (omega (arith, own.above))) (lt-ltb p (size h) own.before);
           b = refl;
+          link = refl;
           content_len = refl;
         };
         jsn = refl;
@@ -330,6 +406,10 @@ purge_whole h p given = record { length_is = refl; content_is = refl; who_is = r
 pub occult_whole : (jsn target : ℕ) (leaf : Digest) (given : List Approval) → IsWhole (occult_journal jsn target leaf given)
 unfolding occult_header
 occult_whole jsn target leaf given = record { length_is = refl; content_is = refl; who_is = refl }
+
+pub clue_occult_whole : (jsn : ℕ) (clue : Digest) (count : ℕ) (given : List Approval) → IsWhole (clue_occult_journal jsn clue count given)
+unfolding clue_occult_header
+clue_occult_whole jsn clue count given = record { length_is = refl; content_is = refl; who_is = refl }
 
 pub time_whole : (jsn : ℕ) (stamp : Stamp) → IsWhole (time_journal jsn stamp)
 unfolding time_header
@@ -385,6 +465,7 @@ module _ (limits : Limits) (within : AreWithin limits) (h : History) (number : �
     clue_prev = refl;
     a = and_from _ _ (le-leb 2 number (omega (arith, next_number.1, (lawful_members (journals h) lawful).0))) (lt-ltb number MEMBER_LIMIT (omega (arith, next_number.0, next_number.1)));
     b = refl;
+    link = refl;
     content_len = refl;
   }
 

@@ -25,6 +25,7 @@ time_kind kind.Genesis is = absurd (true≢false (sym is))
 time_kind kind.Content is = absurd (true≢false (sym is))
 time_kind kind.Member is = absurd (true≢false (sym is))
 time_kind kind.Occult is = absurd (true≢false (sym is))
+time_kind kind.ClueOccult is = absurd (true≢false (sym is))
 time_kind kind.Purge is = absurd (true≢false (sym is))
 
 -- the marks with a journal in front of the others

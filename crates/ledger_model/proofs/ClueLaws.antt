@@ -131,6 +131,7 @@ clues_by before e kind.Genesis is has own layout few = absurd (true≢false (sym
 clues_by before e kind.Member is has own layout few = absurd (true≢false (sym has ∙ ap not (subst (λ (k : Kind). clue_ok k e.header.clue ≡ true) is layout.clue)))
 clues_by before e kind.Time is has own layout few = absurd (true≢false (sym has ∙ ap not (subst (λ (k : Kind). clue_ok k e.header.clue ≡ true) is layout.clue)))
 clues_by before e kind.Occult is has own layout few = absurd (true≢false (sym has ∙ ap not (subst (λ (k : Kind). clue_ok k e.header.clue ≡ true) is layout.clue)))
+clues_by before e kind.ClueOccult is has own layout few = absurd (true≢false (sym has ∙ ap not (subst (λ (k : Kind). clue_ok k e.header.clue ≡ true) is layout.clue)))
 clues_by before e kind.Purge is has own layout few = absurd (true≢false (sym has ∙ ap not (subst (λ (k : Kind). clue_ok k e.header.clue ≡ true) is layout.clue)))
 
 clues_step : (before : List Entry) (e : Entry) → IsNext (history [] before) e.header → HasClues before → HasClues (before ++ e ∷ [])

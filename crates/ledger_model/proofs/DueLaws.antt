@@ -10,7 +10,7 @@ use Rattle.script_lines.specs.Replies.{reply_text}
 use Rattle.script_lines.specs.declared.reply.Reply.TheVariants as reply
 use Rattle.std.specs.Option.{option_map}
 use Rattle.ledger_model.specs.Anchors.{stamp_of, time_journal}
-use Rattle.ledger_model.specs.Appends.{append_journal, member_journal, occult_journal, purge_journal}
+use Rattle.ledger_model.specs.Appends.{append_journal, member_journal, occult_journal, clue_occult_journal, purge_journal}
 use Rattle.ledger_model.specs.Dues.{due_for, dues, IsWithin}
 use Rattle.ledger_model.specs.Growing.{Grows}
 use Rattle.ledger_model.specs.History.{History, id, journals_of, size, root, close, block_of, end_of}
@@ -26,7 +26,7 @@ use Rattle.ledger_model.specs.declared.answer.Answer.{Answer}
 use Rattle.ledger_model.specs.declared.answer.Answer.TheVariants.{Reply, Receipt}
 use Rattle.ledger_model.specs.declared.due.Due.{Due}
 use Rattle.ledger_model.specs.declared.job.Job.{Job}
-use Rattle.ledger_model.specs.declared.job.Job.TheVariants.{Refused, Append, NewMember, Anchor, Occult, Purge, Get, Prove, Extend, Clue, Head}
+use Rattle.ledger_model.specs.declared.job.Job.TheVariants.{Refused, Append, NewMember, Anchor, Occult, OccultClue, Purge, Get, Prove, Extend, Clue, Head}
 use Rattle.ledger_model.specs.declared.outcome.Query.TheVariants as query
 use Rattle.ledger_model.proofs.ProveLaws.{asked}
 use Rattle.ledger_model.proofs.RepeatLaws.{repeated_within}
@@ -73,6 +73,9 @@ within_job k step Anchor = within_anchor (close k) step (own_refusal real_limits
 within_job k step (Occult target leaf given) =
     let job = Occult target leaf given in
     within_judged (close k) step job (own_refusal real_limits (close k) job) (occult_journal (size (close k)) target leaf given)
+within_job k step (OccultClue clue count given) =
+    let job = OccultClue clue count given in
+    within_judged (close k) step job (own_refusal real_limits (close k) job) (clue_occult_journal (size (close k)) clue count given)
 within_job k step (Purge p told given) =
     let job = Purge p told given in
     within_judged (close k) step job (own_refusal real_limits (close k) job) (purge_journal (close k) p given)

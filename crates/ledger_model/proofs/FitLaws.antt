@@ -7,14 +7,14 @@ use Rattle.std.proofs.lemmas.List.{length-map}
 use Rattle.std.proofs.lemmas.Slice.Zip.{length-zip}
 use Rattle.ledger_bytes.specs.Fields.{IsBytes}
 use Rattle.ledger_bytes.specs.declared.digest.Digest.{Digest}
-use Rattle.ledger_bytes.specs.declared.limits.TheConstants.{APPROVAL_LIMIT, MEMBER_LIMIT, PROOF_LIMIT}
+use Rattle.ledger_bytes.specs.declared.limits.TheConstants.{APPROVAL_LIMIT, MEMBER_LIMIT, NAME_LIMIT, PROOF_LIMIT}
 use Rattle.ledger_bytes.specs.declared.refusal.Refusal.{Refusal}
 use Rattle.ledger_bytes.specs.declared.refusal.Refusal.TheVariants as refusals
 use Rattle.journal_record.specs.Entry.{Entry}
 use Rattle.journal_record.specs.Members.{is_known, is_key_of, number_refusal}
 use Rattle.journal_record.specs.Rules.{is_no_clue, member_ok}
 use Rattle.journal_record.specs.Header.{code_of}
-use Rattle.journal_record.specs.Request.{occult_request_digest_of, purge_request_digest_of}
+use Rattle.journal_record.specs.Request.{occult_request_digest_of, clue_occult_request_digest_of, purge_request_digest_of}
 use Rattle.journal_record.specs.declared.approval.Approval.{Approval}
 use Rattle.journal_record.specs.declared.header.Kind.{Kind}
 use Rattle.journal_record.specs.declared.header.Kind.TheVariants as kind
@@ -29,13 +29,13 @@ use Rattle.script_lines.specs.Limits.{fits_what, fits_approvals}
 use Rattle.script_lines.specs.declared.said.SaidApproval.{SaidApproval}
 use Rattle.script_lines.proofs.Fitting.{spoken_fits}
 use Rattle.script_lines.proofs.SpokenLaws.{WhatFits, spoken_counts}
-use Rattle.ledger_model.specs.Appends.{approval_of, append_with, member_job, occult_job, purge_job, append_journal, member_journal, occult_journal, purge_journal}
+use Rattle.ledger_model.specs.Appends.{approval_of, clue_of, append_with, member_job, occult_job, clue_occult_job, purge_job, append_journal, member_journal, occult_journal, clue_occult_journal, purge_journal}
 use Rattle.ledger_model.specs.Clues.{numbers_of, jsns_with, clue_count}
 use Rattle.ledger_model.specs.Dues.{IsWithin, due_for, dues, all_dues, due_reply, due_replies, IsCounted, AllCounted, EachCounted}
 use Rattle.ledger_model.specs.Growing.{Grows}
 use Rattle.ledger_model.specs.History.{History, id, journals, journals_of, leaf_digest, size, root, blocks, point, block_from, end_from, block_of, end_of, close}
 use Rattle.ledger_model.specs.Judgements.{kept_count, is_full, fullness, hard_fullness, life_fullness, unknown_in, wrong_key_in, clues_full, own_refusal}
-use Rattle.member_book.specs.Erasures.{absent, purged, purged_up_to, is_record, no_record, is_time, no_time, hidden_by, other_leaf, other_root, first_refusal}
+use Rattle.member_book.specs.Erasures.{absent, purged, purged_up_to, is_record, no_record, is_time, no_time, hidden_by, other_leaf, other_root, clue_differs, nothing_shown, first_refusal}
 use Rattle.ledger_model.specs.Lawful.{AreNext, IsBlock, IsLawful}
 use Rattle.ledger_model.specs.Limits.{real_limits}
 use Rattle.ledger_model.specs.Members.{members, keys}
@@ -46,7 +46,7 @@ use Rattle.ledger_model.specs.Anchors.{stamp_of, time_journal, no_stamp, is_full
 use Rattle.ledger_model.specs.Rules.{job_for, job_of, closes_before, judged_at, after_step, after_steps, after_window, after}
 use Rattle.ledger_model.specs.Proofs.{prove_refusal, extend_refusal}
 use Rattle.ledger_model.specs.Scheme.{Scheme}
-use Rattle.ledger_model.specs.Targets.{hides, hider_among, hider, kind_at, leaf_at}
+use Rattle.ledger_model.specs.Targets.{hides, hider_among, hider, kind_at, leaf_at, shown_with}
 use Rattle.ledger_model.specs.Step.{Step}
 use Rattle.ledger_model.specs.Texts.{kept_with, told_reply, answer_for, answer_to, told_stamp, reply_in}
 use Rattle.ledger_model.specs.declared.answer.Answer.{Answer}
@@ -62,7 +62,7 @@ use Rattle.ledger_bytes.specs.Digests.{digest}
 use Rattle.sha2.specs.Sha256.{sha256}
 use Rattle.tree_model.specs.Tree.{mth}
 use Rattle.ledger_model.specs.declared.job.Job.{Job}
-use Rattle.ledger_model.specs.declared.job.Job.TheVariants.{Refused, Append, NewMember, Anchor, Occult, Purge, Get, Prove, Extend, Clue, Head}
+use Rattle.ledger_model.specs.declared.job.Job.TheVariants.{Refused, Append, NewMember, Anchor, Occult, OccultClue, Purge, Get, Prove, Extend, Clue, Head}
 use Rattle.ledger_model.proofs.ByteLaws.{leaf_bytes}
 use Rattle.ledger_model.proofs.DueLaws.{grows_steps, AllWithin, all_higher, dues_within, grows_windows}
 use Rattle.ledger_model.proofs.GetLaws.{get_fits}
@@ -225,7 +225,15 @@ code_fits kind.Content = omega arith
 code_fits kind.Member = omega arith
 code_fits kind.Time = omega arith
 code_fits kind.Occult = omega arith
+code_fits kind.ClueOccult = omega arith
 code_fits kind.Purge = omega arith
+
+-- .. of an occult by clue
+differs_fits : (n count : ℕ) → FitsWord n → MayFit (clue_differs n count)
+differs_fits n count f = elim (n == count) as (λ v. MayFit (cond v None (Some (refusals.ClueDiffers n)))) [ true ↦ tt | false ↦ f ]
+
+shown_fits : (n : ℕ) → MayFit (nothing_shown n)
+shown_fits n = elim (n == 0) as (λ v. MayFit (cond v (Some refusals.NothingToHide) None)) [ true ↦ tt | false ↦ tt ]
 
 no_record_fits : (k : Kind) → MayFit (no_record k)
 no_record_fits k = elim (is_record k) as (λ v. MayFit (cond v None (Some (refusals.NotData (code_of k))))) [ true ↦ tt | false ↦ code_fits k ]
@@ -305,6 +313,7 @@ member_small kind.Genesis member ok = omega (arith, eqb-true member 0 ok)
 member_small kind.Member member ok = omega (arith, eqb-true member 0 ok)
 member_small kind.Time member ok = omega (arith, eqb-true member 0 ok)
 member_small kind.Occult member ok = omega (arith, eqb-true member 0 ok)
+member_small kind.ClueOccult member ok = omega (arith, eqb-true member 0 ok)
 member_small kind.Purge member ok = omega (arith, eqb-true member 0 ok)
 
 owners_fit : (m from to : ℕ) (es : List Entry) → AreFrom m es → AllFits (map (λ (j : Entry). j.header.member) (filter (is_taken from to) es))
@@ -323,6 +332,7 @@ JobFits (Append member clue content content_digest request by who number) = Fits
 JobFits (NewMember number key by) = ⊤
 JobFits Anchor = ⊤
 JobFits (Occult target leaf given) = (length given ≤ APPROVAL_LIMIT) × MembersFit given
+JobFits (OccultClue clue count given) = (length given ≤ APPROVAL_LIMIT) × MembersFit given
 JobFits (Purge p told given) = (length given ≤ APPROVAL_LIMIT) × MembersFit given
 JobFits (Get n) = ⊤
 JobFits (Prove n) = ⊤
@@ -352,6 +362,9 @@ own_fits h (Occult target leaf given) l f =
         ),
       ),
     )
+own_fits h (OccultClue clue count given) l f =
+    first_fits (hard_fullness real_limits h ∷ clue_differs (length (jsns_with h clue)) count ∷ nothing_shown (length (shown_with h clue)) ∷ approvals_refusal (keys h) given (0 ∷ 1 ∷ []) ∷ [])
+    (hard_fits h l, (differs_fits (length (jsns_with h clue)) count (count_fits h clue l), (shown_fits (length (shown_with h clue)), (approvals_fit (keys h) given (0 ∷ 1 ∷ []) f.0 f.1 (omega arith, (omega arith, tt)), tt))))
 own_fits h (Purge p told given) l f =
     let kept = digest (root h p) in
     first_fits (life_fullness real_limits h ∷ absent (size h) p ∷ purged_up_to (point h) p ∷ no_time (kind_at h p) ∷ other_root kept told ∷ approvals_refusal (keys h) given (purge_needs h p) ∷ []) (
@@ -375,6 +388,10 @@ said_fit : (scheme : Scheme) (message : List ℕ) (gs : List SaidApproval) → A
 said_fit scheme message [] all = tt
 said_fit scheme message (g ∷ gs) all = (all 0 g (omega arith), said_fit scheme message gs (λ k d lt. all (suc k) d (omega (arith, lt))))
 
+-- the approvals of an occult by clue fit where its line does
+clue_approvals : (name : List ℕ) (given : List SaidApproval) → (nat_le (length name) NAME_LIMIT && fits_approvals given) ≡ true → fits_approvals given ≡ true
+clue_approvals name given fits = (and_parts (nat_le (length name) NAME_LIMIT) (fits_approvals given) fits).1
+
 given_fit : (scheme : Scheme) (message : List ℕ) (given : List SaidApproval) → fits_approvals given ≡ true → All (λ by. FitsWord by.member) given
     → (length (map (λ (by : SaidApproval). approval_of scheme by.member message by.proof) given) ≤ APPROVAL_LIMIT) × MembersFit (map (λ (by : SaidApproval). approval_of scheme by.member message by.proof) given)
 given_fit scheme message given fits f = (
@@ -383,7 +400,7 @@ given_fit scheme message given fits f = (
 )
 
 for_fits : (scheme : Scheme) (id : List ℕ) (what : Result Line Refusal) → fits_what what ≡ true → WhatFits what → JobFits (job_for scheme id what)
-unfolding append_with member_job occult_job purge_job
+unfolding append_with member_job occult_job clue_occult_job purge_job
 for_fits scheme id (Err refusal) fits f = f
 for_fits scheme id (Ok (line.Append member clue content proof number)) fits f = f.0
 for_fits scheme id (Ok (line.NewMember number key proof)) fits f = tt
@@ -394,6 +411,8 @@ for_fits scheme id (Ok (line.Clue name)) fits f = tt
 for_fits scheme id (Ok line.Anchor) fits f = tt
 for_fits scheme id (Ok (line.Occult target leaf given)) fits f =
     given_fit scheme (occult_request_digest_of id target leaf.0) given fits f
+for_fits scheme id (Ok (line.OccultClue name count given)) fits f =
+    given_fit scheme (clue_occult_request_digest_of id (clue_of name).0 count) given (clue_approvals name given fits) f
 for_fits scheme id (Ok (line.Purge p told given)) fits f = given_fit scheme (purge_request_digest_of id p told.0) given fits f
 for_fits scheme id (Ok line.Head) fits f = tt
 
@@ -450,6 +469,8 @@ outcome_fits h step (NewMember number key by) l c f =
 outcome_fits h step Anchor l c f = anchor_fits h step (own_refusal real_limits h Anchor) (stamp_of step) c (own_fits h Anchor l f)
 outcome_fits h step (Occult target leaf given) l c f =
     let job = Occult target leaf given in placed_fits h step (own_refusal real_limits h job) (occult_journal (size h) target leaf given) c (own_fits h job l f)
+outcome_fits h step (OccultClue clue count given) l c f =
+    let job = OccultClue clue count given in placed_fits h step (own_refusal real_limits h job) (clue_occult_journal (size h) clue count given) c (own_fits h job l f)
 outcome_fits h step (Purge p told given) l c f =
     let job = Purge p told given in placed_fits h step (own_refusal real_limits h job) (purge_journal h p given) c (own_fits h job l f)
 outcome_fits h step (Get n) l c f = get_fits h n (omega (arith, size_few h l)) (omega (arith, point_few h l, size_few h l))

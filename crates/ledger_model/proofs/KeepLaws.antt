@@ -15,7 +15,7 @@ use Rattle.ledger_bytes.specs.declared.limits.TheConstants.{APPROVAL_LIMIT, BLOC
 use Rattle.ledger_bytes.specs.declared.refusal.Refusal.{Refusal}
 use Rattle.journal_record.specs.Approval.{who_of}
 use Rattle.journal_record.specs.Entry.{Entry, content_digest_of, who_digest_of}
-use Rattle.journal_record.specs.Request.{occult_request_digest_of, purge_request_digest_of}
+use Rattle.journal_record.specs.Request.{occult_request_digest_of, clue_occult_request_digest_of, purge_request_digest_of}
 use Rattle.journal_record.specs.declared.approval.Approval.{Approval}
 use Rattle.script_lines.specs.Grammar.{spoken_line}
 use Rattle.script_lines.specs.Limits.{fits_what, fits_approvals}
@@ -23,7 +23,7 @@ use Rattle.script_lines.specs.declared.said.SaidApproval.{SaidApproval}
 use Rattle.script_lines.specs.declared.line.Line.{Line}
 use Rattle.script_lines.specs.declared.line.Line.TheVariants as line
 use Rattle.script_lines.proofs.Fitting.{spoken_fits}
-use Rattle.ledger_model.specs.Appends.{approval_of, request_with, append_with, member_job, occult_job, purge_job, append_header, append_journal, member_header, member_journal, occult_journal, purge_journal}
+use Rattle.ledger_model.specs.Appends.{approval_of, clue_of, request_with, append_with, member_job, occult_job, clue_occult_job, purge_job, append_header, append_journal, member_header, member_journal, occult_journal, clue_occult_journal, purge_journal}
 use Rattle.ledger_model.specs.Fitting.{fits_approval, fits_job}
 use Rattle.ledger_model.specs.Genesis.{HasKeys, genesis_header, genesis_journal, new_ledger}
 use Rattle.ledger_model.specs.History.{History, history, journals, journals_of, size, id, close_by, close}
@@ -36,9 +36,9 @@ use Rattle.ledger_model.specs.Scheme.{Scheme}
 use Rattle.ledger_model.specs.Step.{Step}
 use Rattle.ledger_model.specs.declared.genesis.Genesis.{Genesis}
 use Rattle.ledger_model.specs.declared.job.Job.{Job}
-use Rattle.ledger_model.specs.declared.job.Job.TheVariants.{Refused, Append, NewMember, Anchor, Occult, Purge, Get, Prove, Extend, Clue, Head}
+use Rattle.ledger_model.specs.declared.job.Job.TheVariants.{Refused, Append, NewMember, Anchor, Occult, OccultClue, Purge, Get, Prove, Extend, Clue, Head}
 use Rattle.ledger_model.specs.Numbers.{repeated, unless_repeated}
-use Rattle.ledger_model.proofs.AcceptedLaws.{IsNew, record_next, record_whole, member_next, member_whole, occult_next, occult_whole, purge_next, purge_whole, time_next, time_whole, stamp_few}
+use Rattle.ledger_model.proofs.AcceptedLaws.{IsNew, record_next, record_whole, member_next, member_whole, occult_next, occult_whole, clue_occult_next, clue_occult_whole, purge_next, purge_whole, time_next, time_whole, stamp_few}
 use Rattle.ledger_model.proofs.GrowLaws.{journals_of-push, close_none}
 use Rattle.ledger_model.proofs.LawfulLaws.{lawful_more}
 
@@ -154,6 +154,9 @@ job_lawful h step (Occult target leaf given) fits l =
     let g = close h in
     alone_lawful (close h) (own_refusal real_limits (close h) (Occult target leaf given)) (occult_journal (size (close h)) target leaf given) (close_lawful h l) (close_none h)
     (λ none. lawful_more (journals (close h)) _ (close_lawful h l).journals_are (occult_next real_limits real_within (close h) target leaf given none (close_lawful h l).journals_are))
+job_lawful h step (OccultClue clue count given) fits l =
+    alone_lawful (close h) (own_refusal real_limits (close h) (OccultClue clue count given)) (clue_occult_journal (size (close h)) clue count given) (close_lawful h l) (close_none h)
+    (λ none. lawful_more (journals (close h)) _ (close_lawful h l).journals_are (clue_occult_next real_limits real_within (close h) clue count given none (close_lawful h l).journals_are))
 job_lawful h step (Purge p told given) fits l =
     let g = close h in
     let lawful = (close_lawful h l).journals_are in
@@ -199,6 +202,8 @@ job_sound h step (NewMember number key by) fits s =
 job_sound h step Anchor fits s = anchor_sound (close h) (own_refusal real_limits (close h) Anchor) (stamp_of step) (close_sound h s)
 job_sound h step (Occult target leaf given) fits s =
     let job = Occult target leaf given in placed_sound (close h) job (own_refusal real_limits (close h) job) _ (close_sound h s) (occult_whole _ target leaf given)
+job_sound h step (OccultClue clue count given) fits s =
+    let job = OccultClue clue count given in placed_sound (close h) job (own_refusal real_limits (close h) job) _ (close_sound h s) (clue_occult_whole _ clue count given)
 job_sound h step (Purge p told given) fits s =
     let job = Purge p told given in placed_sound (close h) job (own_refusal real_limits (close h) job) _ (close_sound h s) (purge_whole (close h) p given)
 job_sound h step (Get n) fits s = settled_sound (close h) (Get n) (close_sound h s)
@@ -244,6 +249,10 @@ pub occult_fits : (scheme : Scheme) (id : List ℕ) (target : ℕ) (leaf : Diges
 unfolding occult_job
 occult_fits scheme id target leaf given fits = shown_fit scheme (occult_request_digest_of id target leaf.0) given fits
 
+pub clue_occult_fits : (scheme : Scheme) (id name : List ℕ) (count : ℕ) (given : List SaidApproval) → fits_approvals given ≡ true → fits_job (clue_occult_job scheme id name count given) ≡ true
+unfolding clue_occult_job
+clue_occult_fits scheme id name count given fits = shown_fit scheme (clue_occult_request_digest_of id (clue_of name).0 count) given fits
+
 pub purge_fits : (scheme : Scheme) (id : List ℕ) (p : ℕ) (told : Digest) (given : List SaidApproval) → fits_approvals given ≡ true → fits_job (purge_job scheme id p told given) ≡ true
 unfolding purge_job
 purge_fits scheme id p told given fits = shown_fit scheme (purge_request_digest_of id p told.0) given fits
@@ -261,6 +270,8 @@ for_fits scheme id (Ok (line.Extend which m)) fits = refl
 for_fits scheme id (Ok (line.Clue name)) fits = refl
 for_fits scheme id (Ok line.Anchor) fits = refl
 for_fits scheme id (Ok (line.Occult target leaf given)) fits = occult_fits scheme id target leaf given fits
+for_fits scheme id (Ok (line.OccultClue name count given)) fits =
+    clue_occult_fits scheme id name count given (and_parts (nat_le (length name) NAME_LIMIT) (fits_approvals given) fits).1
 for_fits scheme id (Ok (line.Purge p told given)) fits = purge_fits scheme id p told given fits
 for_fits scheme id (Ok line.Head) fits = refl
 
@@ -300,7 +311,7 @@ unfolding genesis_header
 genesis_lawful genesis = record {
   next = (
     record {
-      layout = record { version = refl; jsn = refl; member = refl; clue = refl; clue_ord = refl; clue_prev = refl; a = refl; b = refl; content_len = refl };
+      layout = record { version = refl; jsn = refl; member = refl; clue = refl; clue_ord = refl; clue_prev = refl; a = refl; b = refl; link = refl; content_len = refl };
       jsn = refl;
       below = omega arith;
       own = tt;

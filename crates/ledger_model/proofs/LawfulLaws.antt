@@ -62,6 +62,7 @@ genesis_first kind.Content jsn at ok = absurd (let less = ltb-true 0 jsn ok in o
 genesis_first kind.Member jsn at ok = absurd (let less = ltb-true 0 jsn ok in omega arith)
 genesis_first kind.Time jsn at ok = absurd (let less = ltb-true 0 jsn ok in omega arith)
 genesis_first kind.Occult jsn at ok = absurd (let less = ltb-true 0 jsn ok in omega arith)
+genesis_first kind.ClueOccult jsn at ok = absurd (let less = ltb-true 0 jsn ok in omega arith)
 genesis_first kind.Purge jsn at ok = absurd (let less = ltb-true 0 jsn ok in omega arith)
 
 -- a journal that admits a member has the next number, and there is room for it
@@ -71,6 +72,7 @@ admits_own h x kind.Genesis is own ok = absurd (true≢false (sym is))
 admits_own h x kind.Content is own ok = absurd (true≢false (sym is))
 admits_own h x kind.Time is own ok = absurd (true≢false (sym is))
 admits_own h x kind.Occult is own ok = absurd (true≢false (sym is))
+admits_own h x kind.ClueOccult is own ok = absurd (true≢false (sym is))
 admits_own h x kind.Purge is own ok = absurd (true≢false (sym is))
 
 -- no more members than there may be, and the two founders
@@ -127,6 +129,7 @@ clued_behind kind.Genesis clue jsn has ok at = absurd (true≢false (sym has ∙
 clued_behind kind.Member clue jsn has ok at = absurd (true≢false (sym has ∙ ap not ok))
 clued_behind kind.Time clue jsn has ok at = absurd (true≢false (sym has ∙ ap not ok))
 clued_behind kind.Occult clue jsn has ok at = absurd (true≢false (sym has ∙ ap not ok))
+clued_behind kind.ClueOccult clue jsn has ok at = absurd (true≢false (sym has ∙ ap not ok))
 clued_behind kind.Purge clue jsn has ok at = absurd (true≢false (sym has ∙ ap not ok))
 
 -- the journals of a clue stand behind journal 0
@@ -162,6 +165,7 @@ purge_below kind.Content x n ok at = omega (arith, at)
 purge_below kind.Member x n ok at = omega (arith, at)
 purge_below kind.Time x n ok at = omega (arith, at)
 purge_below kind.Occult x n ok at = omega (arith, at)
+purge_below kind.ClueOccult x n ok at = omega (arith, at)
 
 pub point_below : (n m start : ℕ) (es : List Entry) → AreFrom m es → m + length es ≤ n → start < n → fold max start (map purge_point es) < n
 point_below n m start [] from below low = low

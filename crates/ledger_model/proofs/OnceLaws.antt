@@ -109,6 +109,7 @@ record_kind kind.Genesis is = absurd (true≢false (sym is))
 record_kind kind.Member is = absurd (true≢false (sym is))
 record_kind kind.Time is = absurd (true≢false (sym is))
 record_kind kind.Occult is = absurd (true≢false (sym is))
+record_kind kind.ClueOccult is = absurd (true≢false (sym is))
 record_kind kind.Purge is = absurd (true≢false (sym is))
 
 is_so : (member number : ℕ) (e : Entry) → e.header.kind ≡ kind.Content → e.header.member ≡ member → e.header.a ≡ number → is_numbered member number e ≡ true
@@ -150,6 +151,7 @@ fresh_of h x kind.Genesis is content own = absurd cc
 fresh_of h x kind.Member is content own = absurd cc
 fresh_of h x kind.Time is content own = absurd cc
 fresh_of h x kind.Occult is content own = absurd cc
+fresh_of h x kind.ClueOccult is content own = absurd cc
 fresh_of h x kind.Purge is content own = absurd cc
 
 -- of two kept records with one number none is the earlier

@@ -19,7 +19,7 @@ use Rattle.journal_record.specs.declared.rules.TheConstants.{NOTARY_LIMIT}
 use Rattle.journal_record.specs.declared.stamp.Stamp.{Stamp}
 use Rattle.time_peg.specs.Entries.{IsList, HasOneMore, Making, NotaryState, entry_of, peg_string, time_in}
 use Rattle.ledger_model.specs.Anchors.{peg_at, time_header, time_journal, stamp_from, stamp_of, is_full_list}
-use Rattle.ledger_model.specs.Appends.{append_header, append_journal, member_header, member_journal, occult_header, occult_journal, purge_header, purge_journal}
+use Rattle.ledger_model.specs.Appends.{append_header, append_journal, member_header, member_journal, occult_header, occult_journal, clue_occult_header, clue_occult_journal, purge_header, purge_journal}
 use Rattle.ledger_model.specs.Genesis.{genesis_header, new_ledger}
 use Rattle.ledger_model.specs.Growing.{Grows}
 use Rattle.ledger_model.specs.History.{History, journals, size, id, root, point, first_leaf_digest, purge_point, greatest_point, close}
@@ -35,7 +35,7 @@ use Rattle.ledger_model.specs.Step.{Step}
 use Rattle.ledger_model.specs.Took.{notary_after, Took, TookAll}
 use Rattle.ledger_model.specs.declared.genesis.Genesis.{Genesis}
 use Rattle.ledger_model.specs.declared.job.Job.{Job}
-use Rattle.ledger_model.specs.declared.job.Job.TheVariants.{Refused, Append, NewMember, Anchor, Occult, Purge, Get, Prove, Extend, Clue, Head}
+use Rattle.ledger_model.specs.declared.job.Job.TheVariants.{Refused, Append, NewMember, Anchor, Occult, OccultClue, Purge, Get, Prove, Extend, Clue, Head}
 use Rattle.ledger_model.proofs.DueLaws.{grows_steps, grows_windows}
 use Rattle.ledger_model.proofs.GrowLaws.{root_kept, grows_asked, grows_close, grows_with, grows_job, grows_size}
 use Rattle.ledger_model.proofs.KeepLaws.{journals_close, journals_wider}
@@ -283,7 +283,7 @@ module _ (making : Option Making) (q : ℕ) (h : History) (step : Step) (some : 
 
 -- what is judged against a history
 judged_pegged : {q : ℕ} (making : Option Making) (h : History) (step : Step) (job : Job) → 0 < size h → PeggedFrom q h step.before → ChangesBy h making step job → PeggedFrom q (with_job real_limits (stamp_of step) h job) step.after
-unfolding with_job append_header member_header occult_header purge_header
+unfolding with_job append_header member_header occult_header clue_occult_header purge_header
 judged_pegged {q} making h step (Refused refusal) some p attends = subst (PeggedFrom q h) (sym attends) p
 judged_pegged {q} making h step (Append member clue content content_digest request by who number) some p attends =
     by_repeat (own_refusal real_limits h (Append member clue content content_digest request by who number)) (repeated h member number request) (λ time. cc)
@@ -297,6 +297,8 @@ judged_pegged {q} making h step (NewMember number key by) some p attends =
 judged_pegged {q} making h step Anchor some p attends = anchor_pegged making q h step some p attends (own_refusal real_limits h Anchor) (stamp_of step) refl refl
 judged_pegged {q} making h step (Occult target leaf given) some p attends =
     untimed q h step.after some (subst (PeggedFrom q h) (sym attends) p) (own_refusal real_limits h (Occult target leaf given)) (occult_journal (size h) target leaf given) (λ time. cc)
+judged_pegged {q} making h step (OccultClue clue count given) some p attends =
+    untimed q h step.after some (subst (PeggedFrom q h) (sym attends) p) (own_refusal real_limits h (OccultClue clue count given)) (clue_occult_journal (size h) clue count given) (λ time. cc)
 judged_pegged {q} making h step (Purge to told given) some p attends =
     untimed q h step.after some (subst (PeggedFrom q h) (sym attends) p) (own_refusal real_limits h (Purge to told given)) (purge_journal h to given) (λ time. cc)
 judged_pegged {q} making h step (Get n) some p attends = unplaced (own_refusal real_limits h (Get n)) h step.after (subst (PeggedFrom q h) (sym attends) p)

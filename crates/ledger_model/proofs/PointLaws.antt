@@ -57,6 +57,7 @@ time_step before e kind.Content is own has = same_step before e (ap (λ (x : Kin
 time_step before e kind.Member is own has = same_step before e (ap (λ (x : Kind). cond (is_purge x) e.header.a 0) is) has
 time_step before e kind.Time is own has = same_step before e (ap (λ (x : Kind). cond (is_purge x) e.header.a 0) is) has
 time_step before e kind.Occult is own has = same_step before e (ap (λ (x : Kind). cond (is_purge x) e.header.a 0) is) has
+time_step before e kind.ClueOccult is own has = same_step before e (ap (λ (x : Kind). cond (is_purge x) e.header.a 0) is) has
 
 time_more : (before es : List Entry) → AreNext before es → HasTime before → HasTime (before ++ es)
 time_more before [] next has = subst HasTime (sym (append-nil before)) has

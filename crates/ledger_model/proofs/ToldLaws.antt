@@ -9,7 +9,7 @@ use Rattle.ledger_model.specs.History.{History, size}
 use Rattle.ledger_model.specs.Numbers.{repeated, unless_repeated}
 use Rattle.ledger_model.specs.Outcomes.{record_outcome, accepted_outcome, placed_as, placed_journal}
 use Rattle.ledger_model.specs.declared.job.Job.{Job}
-use Rattle.ledger_model.specs.declared.job.Job.TheVariants.{Refused, Append, NewMember, Anchor, Occult, Purge, Get, Prove, Extend, Clue, Head}
+use Rattle.ledger_model.specs.declared.job.Job.TheVariants.{Refused, Append, NewMember, Anchor, Occult, OccultClue, Purge, Get, Prove, Extend, Clue, Head}
 use Rattle.ledger_model.specs.declared.outcome.Outcome.TheVariants as outcomes
 use Rattle.ledger_model.specs.declared.outcome.PlacedJournal.{PlacedJournal}
 
@@ -30,6 +30,7 @@ placed_told h stamp (NewMember number key by) journal is = told_as h _ journal i
 placed_told h None Anchor journal is = absurd (none-some journal is)
 placed_told h (Some stamp) Anchor journal is = told_as h (time_journal (size h) stamp) journal is
 placed_told h stamp (Occult target leaf given) journal is = told_as h _ journal is
+placed_told h stamp (OccultClue clue count given) journal is = told_as h _ journal is
 placed_told h stamp (Purge p told given) journal is = told_as h _ journal is
 placed_told h stamp (Get n) journal is = absurd (none-some journal is)
 placed_told h stamp (Prove n) journal is = absurd (none-some journal is)
@@ -49,6 +50,7 @@ told_placed h stamp (NewMember number key by) placed is = λ none. none-some _ (
 told_placed h None Anchor placed is = absurd cc
 told_placed h (Some stamp) Anchor placed is = λ none. none-some _ (sym none)
 told_placed h stamp (Occult target leaf given) placed is = λ none. none-some _ (sym none)
+told_placed h stamp (OccultClue clue count given) placed is = λ none. none-some _ (sym none)
 told_placed h stamp (Purge p told given) placed is = λ none. none-some _ (sym none)
 told_placed h stamp (Get n) placed is = absurd cc
 told_placed h stamp (Prove n) placed is = absurd cc

@@ -10,7 +10,7 @@ use Rattle.ledger_bytes.specs.declared.digest.Digest.{Digest}
 use Rattle.ledger_bytes.specs.declared.refusal.Refusal.{Refusal}
 use Rattle.journal_record.specs.Entry.{Entry}
 use Rattle.script_lines.specs.Replies.{reply_text}
-use Rattle.ledger_model.specs.Appends.{append_journal, member_journal, occult_journal, purge_journal}
+use Rattle.ledger_model.specs.Appends.{append_journal, member_journal, occult_journal, clue_occult_journal, purge_journal}
 use Rattle.ledger_model.specs.Dues.{IsWithin, due_line, due_lines, digests_of, HasLeaf, IsHeadOf, IsWaiting, AllWaiting, IsIn, AllIn}
 use Rattle.ledger_model.specs.Growing.{Grows}
 use Rattle.ledger_model.specs.History.{History, history, id, blocks, point, journals, journals_of, size, root, close, leaf_digest}
@@ -39,7 +39,7 @@ use Rattle.ledger_model.specs.declared.answer.Answer.{Answer}
 use Rattle.ledger_model.specs.declared.answer.Answer.TheVariants.{Reply, Receipt}
 use Rattle.ledger_model.specs.declared.due.Due.{Due}
 use Rattle.ledger_model.specs.declared.job.Job.{Job}
-use Rattle.ledger_model.specs.declared.job.Job.TheVariants.{Refused, Append, NewMember, Anchor, Occult, Purge, Get, Prove, Extend, Clue, Head}
+use Rattle.ledger_model.specs.declared.job.Job.TheVariants.{Refused, Append, NewMember, Anchor, Occult, OccultClue, Purge, Get, Prove, Extend, Clue, Head}
 use Rattle.ledger_model.proofs.DueLaws.{answer_kept}
 use Rattle.ledger_model.proofs.RepeatLaws.{leaf_there, point_before, repeated_within}
 use Rattle.ledger_model.specs.declared.outcome.Outcome.TheVariants.{Reading}
@@ -179,6 +179,7 @@ answer_waits h step (Append member clue content content_digest request by who nu
 answer_waits h step (NewMember number key by) settled = placed_waits h step (own_refusal real_limits h (NewMember number key by)) (member_journal (size h) number key by)
 answer_waits h step Anchor settled = anchor_waits h step (own_refusal real_limits h Anchor) (stamp_of step)
 answer_waits h step (Occult target leaf given) settled = placed_waits h step (own_refusal real_limits h (Occult target leaf given)) (occult_journal (size h) target leaf given)
+answer_waits h step (OccultClue clue count given) settled = placed_waits h step (own_refusal real_limits h (OccultClue clue count given)) (clue_occult_journal (size h) clue count given)
 answer_waits h step (Purge p told given) settled = placed_waits h step (own_refusal real_limits h (Purge p told given)) (purge_journal h p given)
 answer_waits h step (Get n) settled = get_told (IsPlain h) h n (λ why. (tt, tt)) (λ header content who. (tt, tt)) (λ header who. (tt, tt))
 answer_waits h step (Prove n) settled = asked_waits h step (own_refusal real_limits h (Prove n)) (query.Prove n) (told_proof (IsPlain h) h step n (tt, tt) (λ m leaf lo hi bytes. (tt, tt)))

@@ -1,4 +1,4 @@
--- The journals of members' records, of new members, of occults and of purges.
+-- The journals of members' records, of new members, of occults of either kind and of purges.
 use Rattle.std.specs.Prelude.{ℕ, List, [], ◌∷◌, length, map}
 use Rattle.std.specs.Option.{option_map}
 use Rattle.ledger_bytes.specs.Digests.{digest}
@@ -6,7 +6,7 @@ use Rattle.ledger_bytes.specs.declared.digest.Digest.{Digest}
 use Rattle.journal_record.specs.Approval.{who_of}
 use Rattle.journal_record.specs.Entry.{Entry, content_digest_of, who_digest_of}
 use Rattle.journal_record.specs.Rules.{version_of}
-use Rattle.journal_record.specs.Request.{request_digest_of, member_request_digest_of, occult_request_digest_of, purge_request_digest_of, clue_digest_of}
+use Rattle.journal_record.specs.Request.{request_digest_of, member_request_digest_of, occult_request_digest_of, clue_occult_request_digest_of, purge_request_digest_of, clue_digest_of}
 use Rattle.journal_record.specs.declared.approval.Approval.{Approval}
 use Rattle.journal_record.specs.declared.header.Header.{Header}
 use Rattle.journal_record.specs.declared.header.Kind.TheVariants as kind
@@ -17,7 +17,7 @@ use Rattle.ledger_model.specs.Headers.{plain_header}
 use Rattle.ledger_model.specs.History.{History, size}
 use Rattle.ledger_model.specs.Scheme.{Scheme}
 use Rattle.ledger_model.specs.declared.job.Job.{Job}
-use Rattle.ledger_model.specs.declared.job.Job.TheVariants.{Append, NewMember, Occult, Purge}
+use Rattle.ledger_model.specs.declared.job.Job.TheVariants.{Append, NewMember, Occult, OccultClue, Purge}
 
 -- the digest that a member approves for a record with this clue and this content
 abbrev pub request_with : List ℕ → ℕ → Digest → List ℕ → ℕ → List ℕ
@@ -47,6 +47,12 @@ unfoldable pub occult_job : Scheme → List ℕ → ℕ → Digest → List Said
 occult_job scheme id target leaf given =
     let request = occult_request_digest_of id target leaf.0 in
     Occult target leaf (map (λ by. approval_of scheme by.member request by.proof) given)
+
+-- the job of an occult of all records of the clue with this name, on the ledger with this id: each approval is one of its request
+unfoldable pub clue_occult_job : Scheme → List ℕ → List ℕ → ℕ → List SaidApproval → Job
+clue_occult_job scheme id name count given =
+    let request = clue_occult_request_digest_of id (clue_of name).0 count in
+    OccultClue (clue_of name) count (map (λ by. approval_of scheme by.member request by.proof) given)
 
 -- the job of a purge on the ledger with this id: each approval is one of its request
 unfoldable pub purge_job : Scheme → List ℕ → ℕ → Digest → List SaidApproval → Job
@@ -102,6 +108,19 @@ occult_header jsn target leaf given = plain_header kind.Occult jsn target 0 leaf
 abbrev pub occult_journal : ℕ → ℕ → Digest → List Approval → Entry
 occult_journal jsn target leaf given = record {
   header = occult_header jsn target leaf given;
+  content = [];
+  who = who_of given;
+}
+
+-- the header of an occult by clue that is journal jsn
+unfoldable pub clue_occult_header : ℕ → Digest → ℕ → List Approval → Header
+clue_occult_header jsn clue count given = plain_header kind.ClueOccult jsn count 0 clue (who_of given)
+
+-- the journal jsn that hides the contents of all records of a clue in front of it: it tells how many there are, and the approvals
+-- are its who
+abbrev pub clue_occult_journal : ℕ → Digest → ℕ → List Approval → Entry
+clue_occult_journal jsn clue count given = record {
+  header = clue_occult_header jsn clue count given;
   content = [];
   who = who_of given;
 }

@@ -1,5 +1,5 @@
 -- What may be next behind a base, where nobody can look at the journals in front of it.
-use Rattle.std.specs.Prelude.{◌≡◌, ℕ, ◌+◌, ◌-◌, ◌<◌, ◌≤◌, ◌&&◌, ◌==◌, Bool, true, false, if◌then◌else◌, List, [], ◌∷◌, ◌++◌, length, map, filter, drop, Option, Some, None, ⊤}
+use Rattle.std.specs.Prelude.{◌≡◌, ◌≢◌, ℕ, ◌+◌, ◌-◌, ◌<◌, ◌≤◌, ◌&&◌, ◌==◌, Bool, true, false, not, nat_le, if◌then◌else◌, List, [], ◌∷◌, ◌++◌, length, map, filter, drop, slice_get, Option, Some, None, ⊤}
 use Rattle.std.specs.List.{list_any}
 use Rattle.ledger_bytes.specs.declared.digest.Digest.{Digest}
 use Rattle.clue_index.specs.Added.{Added, trail_of, different_clues}
@@ -10,12 +10,12 @@ use Rattle.journal_record.specs.declared.header.Header.{Header}
 use Rattle.journal_record.specs.declared.header.Kind.{Kind}
 use Rattle.journal_record.specs.declared.header.Kind.TheVariants as kind
 use Rattle.ledger_model.specs.Bases.{clue_mark_of, clues_added}
-use Rattle.ledger_model.specs.Clues.{has_clue}
+use Rattle.ledger_model.specs.Clues.{has_clue, is_of_clue}
 use Rattle.ledger_model.specs.History.{history, is_purge, greatest_point}
 use Rattle.ledger_model.specs.Limits.{real_limits}
 use Rattle.ledger_model.specs.Members.{members, admitted_members}
 use Rattle.ledger_model.specs.Numbers.{numbered_in}
-use Rattle.ledger_model.specs.Targets.{is_occult, kind_at, leaf_at}
+use Rattle.ledger_model.specs.Targets.{names, hides, is_hidden_by, kind_at, leaf_at}
 use Rattle.pseudo_genesis.specs.declared.base.Base.{Base}
 
 -- the number of the first journal that is known: the base's point, or journal 0
@@ -36,10 +36,6 @@ clues_behind (Some base) journals = record { states = base.clues; marks = map cl
 -- the next journal's number
 abbrev pub next_number : Option Base → List Entry → ℕ
 next_number start journals = first_of start + length journals
-
--- a journal hides the one with this number
-abbrev pub names : ℕ → Entry → Bool
-names n journal = is_occult journal.header.kind && journal.header.a == n
 
 -- whether a header is that of the purge to this point
 abbrev pub is_purge_to : ℕ → Header → Bool
@@ -76,13 +72,14 @@ pub record IsRecordBehind (start : Option Base) (journals : List Entry) (x : Hea
   pub room : HasRoomFor real_limits.clues (clues_behind start journals) x.clue
   pub fresh : numbered_from (first_of start) (greatest_point journals) journals x.member x.a ≡ None
 
--- An occult that may be next: none of the journals hides its target. A target that is there is a record from the point on, and
+-- An occult that may be next: none of the journals hides its target, as far as they tell. A target that is there is a record from the point on, and
 -- the link is its leaf digest. Of one in front of the base nothing more can be asked, until the purge to the base's own point
 -- is there: from then on it is known to be gone. A purge to a later point alone doesn't tell that.
 -- Example: behind a base at journal 2 stand the time journals 2 and 3 and a purge to 3. An occult of journal 1 may be next;
 -- behind a purge to 2 it may not.
 pub record IsOccultBehind (start : Option Base) (journals : List Entry) (x : Header) : Type 0 where
-  pub shown : list_any (names x.a) journals ≡ false
+  pub named : x.a < first_of start → list_any (names x.a) journals ≡ false
+  pub shown : first_of start ≤ x.a → is_hidden_by journals (slice_get journals (x.a - first_of start)) ≡ false
   pub front : x.a < first_of start → has_own_purge start journals ≡ false
   pub kept : first_of start ≤ x.a → greatest_point journals ≤ x.a
   pub target_is : first_of start ≤ x.a → kind_at (history [] journals) (x.a - first_of start) ≡ kind.Content
@@ -94,6 +91,18 @@ pub record IsPurgeBehind (start : Option Base) (journals : List Entry) (x : Head
   pub above : greatest_point journals < x.a
   pub target_is : first_of start ≤ x.a → kind_at (history [] journals) (x.a - first_of start) ≡ kind.Time
 
+-- the records of a clue among some journals, from the point that they tell on, that none of them hides
+abbrev pub shown_behind : List Entry → Digest → List Entry
+shown_behind journals clue =
+    filter (λ e. is_of_clue clue e && (nat_le (greatest_point journals) e.header.jsn && not (list_any (hides e) journals))) journals
+
+-- An occult by clue that may be next: it tells how many records its clue has, of which the base has counted those in front of it.
+-- That one of them is kept and shown can be seen once the purge to the base's own point is there: from then on each that is kept
+-- is among the journals.
+pub record IsClueOccultBehind (start : Option Base) (journals : List Entry) (x : Header) : Type 0 where
+  pub count : x.a ≡ count_of (trail_of (clues_behind start journals) x.link.0)
+  pub shown : has_own_purge start journals ≡ true → shown_behind journals x.link ≢ []
+
 -- what the next journal must be by its kind
 abbrev pub IsOwnBehind : Option Base → List Entry → Header → Kind → Type 0
 IsOwnBehind start journals x kind.Genesis = ⊤
@@ -102,6 +111,7 @@ IsOwnBehind start journals x kind.Member = x.a ≡ count_behind start journals
 IsOwnBehind start journals x kind.Time = ⊤
 IsOwnBehind start journals x kind.Occult = IsOccultBehind start journals x
 IsOwnBehind start journals x kind.Purge = IsPurgeBehind start journals x
+IsOwnBehind start journals x kind.ClueOccult = IsClueOccultBehind start journals x
 
 -- the first journal behind a base is the time journal at its point
 abbrev pub BeginsWell : Option Base → List Entry → Header → Type 0

@@ -3,6 +3,7 @@ use Rattle.std.specs.Prelude.{ℕ, List, []}
 use Rattle.ledger_bytes.specs.Digests.{digest, zero_digest}
 use Rattle.ledger_bytes.specs.declared.digest.Digest.{Digest}
 use Rattle.journal_record.specs.Entry.{content_digest_of, who_digest_of}
+use Rattle.journal_record.specs.Rules.{version_of}
 use Rattle.journal_record.specs.declared.header.Header.{Header}
 use Rattle.journal_record.specs.declared.header.Kind.{Kind}
 
@@ -10,7 +11,7 @@ use Rattle.journal_record.specs.declared.header.Kind.{Kind}
 -- that go by the kind, and its who bytes
 abbrev pub plain_header : Kind → ℕ → ℕ → ℕ → Digest → List ℕ → Header
 plain_header kind jsn a b link who = record {
-  version = 1;
+  version = version_of kind a 0;
   kind = kind;
   jsn = jsn;
   member = 0;

@@ -7,7 +7,7 @@ use Rattle.ledger_bytes.specs.declared.refusal.Refusal.TheVariants.{Full, Unknow
 use Rattle.journal_record.specs.Members.{is_known, is_key_of, number_refusal}
 use Rattle.journal_record.specs.Rules.{is_no_clue}
 use Rattle.journal_record.specs.declared.approval.Approval.{Approval}
-use Rattle.member_book.specs.Erasures.{occult_row, purge_row, first_refusal}
+use Rattle.member_book.specs.Erasures.{occult_row, clue_occult_row, purge_row, first_refusal}
 use Rattle.script_lines.specs.declared.said.Which.TheVariants.{Ledger, Notary}
 use Rattle.ledger_model.specs.Clues.{jsns_with, clue_count}
 use Rattle.ledger_model.specs.History.{History, size, point, root}
@@ -15,9 +15,9 @@ use Rattle.ledger_model.specs.Members.{members, keys}
 use Rattle.ledger_model.specs.Needs.{purge_needs}
 use Rattle.ledger_model.specs.Numbers.{number_taken, repeated, unless_repeated}
 use Rattle.ledger_model.specs.Proofs.{prove_refusal, extend_refusal}
-use Rattle.ledger_model.specs.Targets.{kind_at, leaf_at, hider}
+use Rattle.ledger_model.specs.Targets.{kind_at, leaf_at, hider, shown_with}
 use Rattle.ledger_model.specs.declared.job.Job.{Job}
-use Rattle.ledger_model.specs.declared.job.Job.TheVariants.{Refused, Append, NewMember, Anchor, Occult, Purge, Get, Prove, Extend, Clue, Head}
+use Rattle.ledger_model.specs.declared.job.Job.TheVariants.{Refused, Append, NewMember, Anchor, Occult, OccultClue, Purge, Get, Prove, Extend, Clue, Head}
 use Rattle.ledger_model.specs.declared.limits.Limits.{Limits}
 
 -- how many journals of a history are kept, which are those from the point on
@@ -79,6 +79,13 @@ occult_judgements limits h target leaf given =
     hard_fullness limits h
     ∷ occult_row (size h) (point h) (kind_at h target) (hider h target) (digest (leaf_at h target)) (keys h) target leaf given
 
+-- what may refuse an occult of so many records of this clue, with these approvals: no room, and then the rows of an occult by
+-- clue. A name that is no clue has no records
+abbrev pub clue_occult_judgements : Limits → History → Digest → ℕ → List Approval → List (Option Refusal)
+clue_occult_judgements limits h clue count given =
+    hard_fullness limits h
+    ∷ clue_occult_row (length (jsns_with h clue)) (length (shown_with h clue)) (keys h) count given
+
 -- What may refuse a purge to journal p, where the root over the journals in front of it is told to be this one, with these
 -- approvals. It takes more journals than it places, so there is room for it as long as there is over the whole life.
 abbrev pub purge_judgements : Limits → History → ℕ → Digest → List Approval → List (Option Refusal)
@@ -93,6 +100,7 @@ own_judgements limits h (Append member clue content content_digest request by wh
 own_judgements limits h (NewMember number key by) = member_judgements limits h number by.key
 own_judgements limits h Anchor = hard_fullness limits h ∷ []
 own_judgements limits h (Occult target leaf given) = occult_judgements limits h target leaf given
+own_judgements limits h (OccultClue clue count given) = clue_occult_judgements limits h clue count given
 own_judgements limits h (Purge p told given) = purge_judgements limits h p told given
 own_judgements limits h (Get n) = []
 own_judgements limits h (Prove n) = prove_refusal h n ∷ []

@@ -7,13 +7,13 @@ use Rattle.journal_record.specs.Rules.{IsHeader}
 use Rattle.journal_record.specs.declared.header.Header.{Header}
 use Rattle.journal_record.specs.declared.header.Kind.{Kind}
 use Rattle.journal_record.specs.declared.header.Kind.TheVariants as kind
-use Rattle.ledger_model.specs.Clues.{next_ordinal, last_journal}
+use Rattle.ledger_model.specs.Clues.{jsns_with, next_ordinal, last_journal}
 use Rattle.ledger_model.specs.History.{History, history, journals, size, point}
 use Rattle.ledger_model.specs.Judgements.{clues_full}
 use Rattle.ledger_model.specs.Limits.{real_limits}
 use Rattle.ledger_model.specs.Members.{members}
 use Rattle.ledger_model.specs.Numbers.{numbered}
-use Rattle.ledger_model.specs.Targets.{is_hidden, kind_at, leaf_at}
+use Rattle.ledger_model.specs.Targets.{is_hidden, kind_at, leaf_at, shown_with}
 
 -- a header may be the next record: the member is known, the clue's numbers are the next ones, and there is room for the clue
 pub record IsNextRecord (h : History) (x : Header) : Type 0 where
@@ -32,13 +32,19 @@ pub record IsNextOccult (h : History) (x : Header) : Type 0 where
   pub shown : is_hidden h x.a ≡ false
   pub leaf_is : x.link.0 ≡ leaf_at h x.a
 
+-- a header may be the next occult by clue: it tells how many records its clue has, and one of them is kept and shown
+pub record IsNextClueOccult (h : History) (x : Header) : Type 0 where
+  pub count : x.a ≡ length (jsns_with h x.link)
+  pub shown : shown_with h x.link ≢ []
+
 -- a header may be the next purge: it names a time journal that lies behind the point so far
 pub record IsNextPurge (h : History) (x : Header) : Type 0 where
   pub above : point h < x.a
   pub before : x.a < size h
   pub target_is : kind_at h x.a ≡ kind.Time
 
--- what the next journal has to be by its kind: a record, a new member, an occult and a purge have a rule, the others none
+-- what the next journal has to be by its kind: a record, a new member, an occult of either kind and a purge have a rule, the
+-- others none
 abbrev pub IsNextOf : History → Header → Kind → Type 0
 IsNextOf h x kind.Genesis = ⊤
 IsNextOf h x kind.Content = IsNextRecord h x
@@ -46,6 +52,7 @@ IsNextOf h x kind.Member = x.a ≡ length (members h)
 IsNextOf h x kind.Time = ⊤
 IsNextOf h x kind.Occult = IsNextOccult h x
 IsNextOf h x kind.Purge = IsNextPurge h x
+IsNextOf h x kind.ClueOccult = IsNextClueOccult h x
 
 -- a header that may be the next one of a history: it obeys its layout, by which it is a genesis exactly where it is the
 -- first

@@ -7,7 +7,7 @@ use Rattle.journal_record.specs.Header.{spelling}
 use Rattle.journal_record.specs.declared.stamp.Stamp.{Stamp}
 use Rattle.std.specs.Option.{option_map}
 use Rattle.ledger_model.specs.Anchors.{time_journal}
-use Rattle.ledger_model.specs.Appends.{append_journal, member_journal, occult_journal, purge_journal}
+use Rattle.ledger_model.specs.Appends.{append_journal, member_journal, occult_journal, clue_occult_journal, purge_journal}
 use Rattle.ledger_model.specs.History.{History, history, size, point, leaf_digest}
 use Rattle.ledger_model.specs.Judgements.{own_refusal}
 use Rattle.ledger_model.specs.Numbers.{repeated, unless_repeated}
@@ -31,6 +31,7 @@ placed_journal h stamp (job.Append member clue content content_digest request by
 placed_journal h stamp (job.NewMember number key by) = Some (member_journal (size h) number key by)
 placed_journal h stamp job.Anchor = option_map (time_journal (size h)) stamp
 placed_journal h stamp (job.Occult target leaf given) = Some (occult_journal (size h) target leaf given)
+placed_journal h stamp (job.OccultClue clue count given) = Some (clue_occult_journal (size h) clue count given)
 placed_journal h stamp (job.Purge p told given) = Some (purge_journal h p given)
 placed_journal h stamp (job.Get n) = None
 placed_journal h stamp (job.Prove n) = None
@@ -88,6 +89,7 @@ accepted_outcome h stamp (job.Append member clue content content_digest request 
 accepted_outcome h stamp (job.NewMember number key by) = placed_as (size h) (member_journal (size h) number key by)
 accepted_outcome h stamp job.Anchor = anchor_outcome h stamp
 accepted_outcome h stamp (job.Occult target leaf given) = placed_as (size h) (occult_journal (size h) target leaf given)
+accepted_outcome h stamp (job.OccultClue clue count given) = placed_as (size h) (clue_occult_journal (size h) clue count given)
 accepted_outcome h stamp (job.Purge p told given) = placed_as (size h) (purge_journal h p given)
 accepted_outcome h stamp (job.Get n) = Reading (query.Get n)
 accepted_outcome h stamp (job.Prove n) = Reading (query.Prove n)

@@ -6,14 +6,14 @@ use Rattle.script_lines.specs.Grammar.{spoken_line}
 use Rattle.script_lines.specs.declared.line.Line.{Line}
 use Rattle.script_lines.specs.declared.line.Line.TheVariants as line
 use Rattle.ledger_model.specs.Anchors.{stamp_of}
-use Rattle.ledger_model.specs.Appends.{append_with, member_job, occult_job, purge_job, clue_of}
+use Rattle.ledger_model.specs.Appends.{append_with, member_job, occult_job, clue_occult_job, purge_job, clue_of}
 use Rattle.ledger_model.specs.History.{History, id, close}
 use Rattle.ledger_model.specs.Limits.{real_limits}
 use Rattle.ledger_model.specs.Outcomes.{with_job}
 use Rattle.ledger_model.specs.Scheme.{Scheme}
 use Rattle.ledger_model.specs.Step.{Step}
 use Rattle.ledger_model.specs.declared.job.Job.{Job}
-use Rattle.ledger_model.specs.declared.job.Job.TheVariants.{Refused, Append, NewMember, Anchor, Occult, Purge, Get, Prove, Extend, Clue, Head}
+use Rattle.ledger_model.specs.declared.job.Job.TheVariants.{Refused, Append, NewMember, Anchor, Occult, OccultClue, Purge, Get, Prove, Extend, Clue, Head}
 
 -- what a line that was read asks for, on the ledger with this id: one equation for each verb, and a refusal where it wasn't
 -- read
@@ -23,6 +23,7 @@ job_for scheme id (Ok (line.Append member clue content proof number)) = append_w
 job_for scheme id (Ok (line.NewMember number key proof)) = member_job scheme id number key proof
 job_for scheme id (Ok line.Anchor) = Anchor
 job_for scheme id (Ok (line.Occult target leaf given)) = occult_job scheme id target leaf given
+job_for scheme id (Ok (line.OccultClue name count given)) = clue_occult_job scheme id name count given
 job_for scheme id (Ok (line.Purge p told given)) = purge_job scheme id p told given
 job_for scheme id (Ok (line.Get n)) = Get n
 job_for scheme id (Ok (line.Prove n)) = Prove n
@@ -45,6 +46,7 @@ closes_before other = true
 abbrev pub closes_after : Job → Bool
 closes_after Anchor = true
 closes_after (Occult target leaf given) = true
+closes_after (OccultClue clue count given) = true
 closes_after (Purge p told given) = true
 closes_after other = false
 

@@ -49,6 +49,15 @@ pub enum Job {
         /// Who approves it, in the order in which they were given.
         given: Items<Approval>,
     },
+    /// An occult by clue: a journal that hides the contents of all records of a clue in front of it.
+    OccultClue {
+        /// The digest of the clue's name, or 32 zero bytes for no clue.
+        clue: Digest,
+        /// How many records of the clue there are.
+        count: u32,
+        /// Who approves it, in the order in which they were given.
+        given: Items<Approval>,
+    },
     /// A purge: all journals in front of a time journal are given up.
     Purge {
         /// The time journal's number.
@@ -92,6 +101,7 @@ impl Job {
             Job::Refused(_) | Job::Append { .. } | Job::NewMember { .. } => false,
             Job::Anchor
             | Job::Occult { .. }
+            | Job::OccultClue { .. }
             | Job::Purge { .. }
             | Job::Get { .. }
             | Job::Prove { .. }
@@ -106,7 +116,7 @@ impl Job {
         ensures { result ≡ closes_after self.now }
     {
         match self {
-            Job::Anchor | Job::Occult { .. } | Job::Purge { .. } => true,
+            Job::Anchor | Job::Occult { .. } | Job::OccultClue { .. } | Job::Purge { .. } => true,
             Job::Refused(_)
             | Job::Append { .. }
             | Job::NewMember { .. }

@@ -2,6 +2,7 @@
 
 ghost use Rattle.std.specs.Prelude.{◌≡◌, ◌≢◌, ℕ, ◌+◌, ◌^◌, ◌<◌, ◌≤◌, List, [], ◌++◌, length, All, Option, Some, None, slice_get, true, false};
 ghost use Rattle.std.specs.List.{flat_map, list_all};
+ghost use Rattle.std.specs.Option.{option_or};
 ghost use Rattle.ledger_bytes.specs.Begins.{Begins};
 ghost use Rattle.ledger_bytes.specs.Digests.{digest};
 ghost use Rattle.ledger_bytes.specs.declared.digest.Digest.{Digest};
@@ -20,6 +21,7 @@ ghost use Rattle.sha2.specs.Sha256.{sha256};
 ghost use Rattle.tree_model.specs.Tree.{mth};
 ghost use Rattle.time_peg.specs.Entries.{IsList, NotaryState};
 ghost use Rattle.ledger_model.specs.Bounds.{lower_journal, upper_journal, IsNearestBefore, IsNearestBehind};
+ghost use Rattle.ledger_model.specs.Clues.{is_of_clue, jsns_with};
 ghost use Rattle.ledger_model.specs.Dues.{dues, all_dues, due_lines, due_replies, EachCounted, HasLeaf, IsHeadOf, AllIn};
 ghost use Rattle.ledger_model.specs.Ends.{ends_from, cut_at, Rises};
 ghost use Rattle.ledger_model.specs.Fitting.{fits_job};
@@ -42,7 +44,7 @@ ghost use Rattle.ledger_model.specs.Repeats.{IsKeptRecord, who_refusal};
 ghost use Rattle.ledger_model.specs.Rules.{after_job, after_steps, after};
 ghost use Rattle.ledger_model.specs.Scheme.{Scheme};
 ghost use Rattle.ledger_model.specs.Step.{Step};
-ghost use Rattle.ledger_model.specs.Targets.{hider, is_hidden, kind_at, leaf_at};
+ghost use Rattle.ledger_model.specs.Targets.{hider, is_hidden, kind_at, leaf_at, shown_with};
 ghost use Rattle.ledger_model.specs.Texts.{text, answer_to, proof_reply, extension_reply};
 ghost use Rattle.ledger_model.specs.Took.{counts_after, NoneCall, Took, TookAll, GoesOnMade};
 ghost use Rattle.ledger_model.specs.Windows.{Said, said_lines, windows, AllButLastWhole, NoneWholeBefore};
@@ -134,6 +136,34 @@ pub fn an_occult_hides_its_target()
         → own_refusal real_limits (close h) (jobs.Occult target leaf given) ≡ None
         → n < size h → n ≢ target
         → view (after_job h step (jobs.Occult target leaf given)) n ≡ view h n }
+{}
+
+/// An occult by clue that is accepted tells how many records its clue has, and one of them was shown whole. Behind it each
+/// record of the clue that is kept is hidden: by the occult where none had hidden it, and else by the one that had. What
+/// can be shown of all others stays as it was, and what is placed behind it isn't hidden by it.
+pub fn an_occult_by_clue_hides_its_records()
+    ensures count { (h : History) (step : Step) (clue : Digest) (count : ℕ) (given : List Approval) → IsLawful h
+        → own_refusal real_limits (close h) (jobs.OccultClue clue count given) ≡ None
+        → length (jsns_with h clue) ≡ count }
+    ensures before { (h : History) (step : Step) (clue : Digest) (count : ℕ) (given : List Approval) → IsLawful h
+        → own_refusal real_limits (close h) (jobs.OccultClue clue count given) ≡ None
+        → shown_with h clue ≢ [] }
+    ensures hider { (h : History) (step : Step) (clue : Digest) (count : ℕ) (given : List Approval) (n : ℕ) (e : Entry)
+        → IsLawful h
+        → own_refusal real_limits (close h) (jobs.OccultClue clue count given) ≡ None
+        → slice_get (journals h) n ≡ Some e → is_of_clue clue e ≡ true
+        → hider (after_job h step (jobs.OccultClue clue count given)) n ≡ option_or (hider h n) (Some (size h)) }
+    ensures after { (h : History) (step : Step) (clue : Digest) (count : ℕ) (given : List Approval) (n : ℕ) (e : Entry)
+        → IsLawful h
+        → own_refusal real_limits (close h) (jobs.OccultClue clue count given) ≡ None
+        → slice_get (journals h) n ≡ Some e → is_of_clue clue e ≡ true → point h ≤ n
+        → view (after_job h step (jobs.OccultClue clue count given)) n ≡ views.Occulted }
+    ensures others { (h : History) (step : Step) (clue : Digest) (count : ℕ) (given : List Approval) (n : ℕ) (e : Entry)
+        → IsLawful h
+        → own_refusal real_limits (close h) (jobs.OccultClue clue count given) ≡ None
+        → slice_get (journals h) n ≡ Some e → is_of_clue clue e ≡ false
+        → view (after_job h step (jobs.OccultClue clue count given)) n ≡ view h n }
+    ensures behind { (h : History) (n j : ℕ) → IsLawful h → hider h n ≡ Some j → n < j }
 {}
 
 /// A purge that is accepted, up to a journal p, takes the journals in front of p: none of them can be shown any more. What

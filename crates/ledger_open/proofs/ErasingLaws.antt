@@ -1,7 +1,7 @@
 -- What is given up: what each image stands for meanwhile, and after it.
-use Rattle.std.specs.Prelude.{◌==◌, nat_lt, not, slice_get, option_map, sum_by}
+use Rattle.std.specs.Prelude.{◌==◌, nat_lt, nat_le, not, slice_get, option_map, sum_by}
 use Rattle.std.proofs.Common.{◌≡◌, ◌≢◌, ◌⊎◌, inl, inr, ℕ, zero, suc, ◌+◌, ◌-◌, ◌<◌, ◌≤◌, ◌&&◌, ◌||◌, Bool, true, false, List, [], ◌∷◌, ◌++◌, length, map, get_or, take, drop, replicate, Some, refl, sym, ◌∙◌, ap, subst, arith}
-use Rattle.std.proofs.lemmas.Bool.{eqb-true, eq-eqb, true≢false, and_parts, or_cases, cases_lt, lt-ltb, ltb-true}
+use Rattle.std.proofs.lemmas.Bool.{eqb-true, eq-eqb, true≢false, and_parts, or_cases, cases_lt, lt-ltb, ltb-true, le-leb}
 use Rattle.std.proofs.lemmas.List.{length-map, map-append}
 use Rattle.std.proofs.lemmas.Option.{slice_get-map, slice_get_past, slice_get_within, get_or_from_slice_get}
 use Rattle.journal_record.specs.Blocks.{AreFrom, AreBlocks}
@@ -19,7 +19,6 @@ use Rattle.ledger_open.specs.Standing.{Floor, floor_behind, AreZeros, AllKept, S
 use Rattle.block_file.specs.declared.place.PlaceAt.{PlaceAt}
 use Rattle.ledger_open.proofs.FloorLaws.{floor_first, floor_digests}
 use Rattle.ledger_open.proofs.GivingLaws.{gone_read, within as within_file, given_up as given_in}
-use Rattle.ledger_open.proofs.GrowLaws.{stands_erased}
 use Rattle.ledger_open.proofs.HoleLaws.{record_places, content_places, lengths_of}
 use Rattle.ledger_open.proofs.PartLaws.{size_parts}
 use Rattle.ledger_open.proofs.PlaceLaws.{places_kept}
@@ -292,21 +291,29 @@ digests_in : (floor : ℕ) (gone : ℕ → Bool) (image : List ℕ) (h : History
 digests_in floor gone image h x = floor_digests h x.parts.gone x.parts.kept x.parts.are
 
 -- what is given up is hidden, and was shown before
+given_new : (h : History) (n : ℕ) → is_given_up h n ≡ true → (is_hidden h n && not (hidden_before h n)) ≡ true
+given_new h n is = (and_parts (nat_le (point h) n) (is_hidden h n && not (hidden_before h n)) is).1
+
 pub given_hidden : (h : History) (n : ℕ) → is_given_up h n ≡ true → is_hidden h n ≡ true
-given_hidden h n is = (and_parts (is_hidden h n) (not (hidden_before h n)) is).0
+given_hidden h n is = (and_parts (is_hidden h n) (not (hidden_before h n)) (given_new h n is)).0
 
 not_true : (v : Bool) → not v ≡ true → v ≡ false
 not_true true none = absurd (true≢false (sym none))
 not_true false none = refl
 
 given_shown : (h : History) (n : ℕ) → is_given_up h n ≡ true → hidden_before h n ≡ false
-given_shown h n is = not_true (hidden_before h n) (and_parts (is_hidden h n) (not (hidden_before h n)) is).1
+given_shown h n is = not_true (hidden_before h n) (and_parts (is_hidden h n) (not (hidden_before h n)) (given_new h n is)).1
 
--- a content that is hidden was so before, or is given up
-before_or_given : (v w : Bool) → v ≡ true → (w ≡ true) ⊎ ((v && not w) ≡ true)
-before_or_given v true hidden = inl refl
-before_or_given true false hidden = inr refl
-before_or_given false false hidden = absurd (true≢false (sym hidden))
+-- a content that is kept and hidden was so before, or is given up
+before_or_given : (u v w : Bool) → u ≡ true → v ≡ true → (w ≡ true) ⊎ ((u && (v && not w)) ≡ true)
+before_or_given u v true kept hidden = inl refl
+before_or_given true true false kept hidden = inr refl
+before_or_given true false false kept hidden = absurd (true≢false (sym hidden))
+before_or_given false v false kept hidden = absurd (true≢false (sym kept))
+
+-- where none is given up, the file is as it is
+pub none_given_up : (h : History) (floor : Floor) (bs : List (List Entry)) (file : List ℕ) → ((n : ℕ) → is_given_up h n ≡ false) → given_up h floor bs file ≡ file
+none_given_up h floor bs file none = zeros_none (is_given_up h) none floor.first (places_from floor bs) file
 
 hidden_there : (h : History) (n : ℕ) → is_hidden h n ≡ true → n < size h
 hidden_there h n is = elim (cases_lt n (size h)) [
@@ -392,7 +399,7 @@ module _ (image : List ℕ) (h : History) (x : StandsFor image h) where
         subst (λ (f : ℕ). StandsBy f (is_hidden h) (given_up_in x.file image) h) at
             (again x.floor (hidden_before h) (is_hidden h) image (given_up_in x.file image) h x.file
             (subst (KeepsBlocks x_floor x.file.edition (is_hidden h) (is_hidden h) x.file.parts.kept) same
-            (keeps_fewer x_floor x_digests x.file.edition (is_hidden h) x.file.parts.kept (λ m. hidden_before h m || (is_given_up h m && nat_lt m (x_floor.first + length x_places))) (is_hidden h) (x_zeroed (length x_places)) (λ m low z. elim (before_or_given (is_hidden h m) (hidden_before h m) z) [
+            (keeps_fewer x_floor x_digests x.file.edition (is_hidden h) x.file.parts.kept (λ m. hidden_before h m || (is_given_up h m && nat_lt m (x_floor.first + length x_places))) (is_hidden h) (x_zeroed (length x_places)) (λ m low z. elim (before_or_given (nat_le (point h) m) (is_hidden h m) (hidden_before h m) (le-leb (point h) m (omega (arith, low, first, at))) z) [
               | inl before ↦ or_left (hidden_before h m) (is_given_up h m && nat_lt m (x_floor.first + length x_places)) before
               | inr given ↦
                   let below : m < x_floor.first + length x_places = omega (arith, hidden_there h m z, first, size_parts x.floor h x.file.none x.file.parts, places_count (64 + length x_floor.base) x.file.parts.kept) in
@@ -403,8 +410,7 @@ module _ (image : List ℕ) (h : History) (x : StandsFor image h) where
 
   -- .. which it was before, where none is given up
   pub nothing_open : ((n : ℕ) → is_given_up h n ≡ false) → x.floor ≡ point h → IsErased image h
-  nothing_open none at =
-      stands_erased image h x at (λ n z. elim (before_or_given (is_hidden h n) (hidden_before h n) z) [ inl before ↦ before | inr given ↦ absurd (true≢false (sym given ∙ none n)) ])
+  nothing_open none at = subst (λ (l : List ℕ). IsErased l h) (none_given_up h x_floor x.file.parts.kept image none) (given_erased at).0
 
 -- where all that is hidden is gone, zeros over it change nothing
 pub given_same_to : (image : List ℕ) (h : History) (x : IsErased image h) (i : ℕ) → i ≤ length (places_from (floor_in x) x.parts.kept) → zeros_to (is_given_up h) (floor_in x).first i (places_from (floor_in x) x.parts.kept) image ≡ image
@@ -423,10 +429,6 @@ given_zeros image h x i p got given =
       place_within (floor_in x) digests x.edition (is_hidden h) x.parts.kept i p got (is_hidden h) image x.keeps,
       place_gone (floor_in x) digests x.edition (is_hidden h) x.parts.kept i p got (is_hidden h) image x.keeps (given_hidden h ((floor_in x).first + i) given),
     )
-
--- where none is given up, the file is as it is
-pub none_given_up : (h : History) (floor : Floor) (bs : List (List Entry)) (file : List ℕ) → ((n : ℕ) → is_given_up h n ≡ false) → given_up h floor bs file ≡ file
-none_given_up h floor bs file none = zeros_none (is_given_up h) none floor.first (places_from floor bs) file
 
 -- by what is kept it is the same
 pub given_alike : (h : History) (floor : Floor) (hid gone : ℕ → Bool) (bs cs : List (List Entry)) (file : List ℕ) → SameButHidden hid gone bs cs → given_up h floor bs file ≡ given_up h floor cs file

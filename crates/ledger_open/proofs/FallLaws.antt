@@ -54,6 +54,7 @@ time_step start before e kind.Content is own has = same_step (first_of start) be
 time_step start before e kind.Member is own has = same_step (first_of start) before e (ap (λ (x : Kind). cond (is_purge x) e.header.a 0) is) has
 time_step start before e kind.Time is own has = same_step (first_of start) before e (ap (λ (x : Kind). cond (is_purge x) e.header.a 0) is) has
 time_step start before e kind.Occult is own has = same_step (first_of start) before e (ap (λ (x : Kind). cond (is_purge x) e.header.a 0) is) has
+time_step start before e kind.ClueOccult is own has = same_step (first_of start) before e (ap (λ (x : Kind). cond (is_purge x) e.header.a 0) is) has
 
 time_more : (start : Option Base) (before es : List Entry) → AreBehind start before es → HasTime (first_of start) before → HasTime (first_of start) (before ++ es)
 time_more start before [] next has = subst (HasTime (first_of start)) (sym (append-nil before)) has

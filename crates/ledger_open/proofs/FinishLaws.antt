@@ -1,7 +1,7 @@
 -- What the last header tells of the contents that are given up, and what giving them up leaves.
 use Rattle.std.specs.Prelude.{◌==◌, nat_le, slice_get, option_map, if◌then◌else◌, sum_by}
-use Rattle.std.proofs.Common.{◌≡◌, inl, inr, ℕ, ◌+◌, ◌-◌, ◌<◌, ◌≤◌, ◌&&◌, Bool, true, false, cond, List, [], ◌∷◌, length, get_or, Option, None, Some, refl, sym, ◌∙◌, ap, subst, arith}
-use Rattle.std.proofs.lemmas.Bool.{le-leb, eqb-true, eq-eqb, true≢false, false_from_ne_true}
+use Rattle.std.proofs.Common.{◌≡◌, ◌⊎◌, inl, inr, ℕ, ◌+◌, ◌-◌, ◌<◌, ◌≤◌, ◌&&◌, Bool, true, false, cond, List, [], ◌∷◌, length, get_or, Option, None, Some, refl, sym, ◌∙◌, ap, subst, arith}
+use Rattle.std.proofs.lemmas.Bool.{le-leb, lt-leb, eqb-true, eq-eqb, true≢false, false_from_ne_true}
 use Rattle.std.proofs.lemmas.List.{nil_from_length}
 use Rattle.std.proofs.lemmas.List.Elements.{All-nil, All-cons, All-append}
 use Rattle.std.proofs.lemmas.List.Sums.{sum_by-cons}
@@ -9,12 +9,14 @@ use Rattle.std.proofs.lemmas.Option.{none-some, same_Some, slice_get-map, slice_
 use Rattle.block_file.specs.File.{IsSettled}
 use Rattle.journal_record.specs.Entry.{Entry}
 use Rattle.journal_record.specs.declared.header.Header.{Header}
+use Rattle.journal_record.specs.declared.header.Kind.{Kind}
+use Rattle.journal_record.specs.declared.header.Kind.TheVariants as kind
 use Rattle.ledger_book.specs.Books.{Kept, Serves, headers}
 use Rattle.ledger_disk.specs.Disk.{State, MayLeave, settled_state}
 use Rattle.ledger_disk.proofs.Guarding.{settled_image}
 use Rattle.ledger_model.proofs.LawfulLaws.{lawful_from, later_seen, point_below, some_journal}
 use Rattle.ledger_model.specs.History.{History, journals, size, point}
-use Rattle.ledger_model.specs.Targets.{is_occult, is_hidden, hider}
+use Rattle.ledger_model.specs.Targets.{hides_as, is_hidden, hider}
 use Rattle.ledger_open.specs.Cutting.{gate_behind}
 use Rattle.ledger_open.specs.Erasing.{AllInside, is_given_up, given_up, given_up_in, EndsAs, AreOf, IsGivenUp}
 use Rattle.ledger_open.specs.Opening.{Known, Knows}
@@ -37,9 +39,16 @@ told_header book h n = if nat_le book.floor n then slice_get (headers h) n else 
 abbrev pub are_of : (book : Kept) (places : List PlaceAt) (h : History) → EndsAs book places h → AreOf book places h
 are_of book places h e = record { serves = e.serves; parts = e.parts; places_are = e.places_are; none = e.none }
 
-and_false : (v : Bool) → (v && false) ≡ false
-and_false true = refl
-and_false false = refl
+-- a journal of this kind hides nothing
+abbrev pub IsPlain : Kind → Type 0
+IsPlain k = (k ≡ kind.Genesis) ⊎ ((k ≡ kind.Content) ⊎ ((k ≡ kind.Member) ⊎ ((k ≡ kind.Time) ⊎ (k ≡ kind.Purge))))
+
+plain_shows : (k : Kind) (x target : Header) → IsPlain k → hides_as k x target ≡ false
+plain_shows k x target (inl is) = ap (λ (y : Kind). hides_as y x target) is
+plain_shows k x target (inr (inl is)) = ap (λ (y : Kind). hides_as y x target) is
+plain_shows k x target (inr (inr (inl is))) = ap (λ (y : Kind). hides_as y x target) is
+plain_shows k x target (inr (inr (inr (inl is)))) = ap (λ (y : Kind). hides_as y x target) is
+plain_shows k x target (inr (inr (inr (inr is)))) = ap (λ (y : Kind). hides_as y x target) is
 
 module _ (book : Kept) (h : History) (serves : Serves book h) where
   some : 1 ≤ size h
@@ -62,30 +71,32 @@ module _ (book : Kept) (h : History) (serves : Serves book h) where
       ∙ ap (λ (k : ℕ). slice_get (headers h) (k - 1)) all ∙ slice_get-map (λ (j : Entry). j.header) (journals h) (size h - 1)
 
   module _ (o : Option Header) (told : o ≡ option_map (λ (j : Entry). j.header) (slice_get (journals h) (size h - 1))) where
-    -- there is one
-    pub not_none : o ≡ None → ⊥
-    not_none none = none-some (last_is h serves.stands.lawful).0.header (sym none ∙ told ∙ ap (option_map (λ (j : Entry). j.header)) (last_is h serves.stands.lawful).1)
-
-    -- .. and what it doesn't name isn't given up
-    not_named : (x : Header) → o ≡ Some x → (n : ℕ) → (is_occult x.kind && x.a == n) ≡ false → is_given_up h n ≡ false
-    not_named x is n other =
+    -- what it doesn't hide isn't given up
+    not_hidden : (x : Header) → o ≡ Some x → (n : ℕ) → ((target : Header) → target.jsn ≡ n → hides_as x.kind x target ≡ false) → is_given_up h n ≡ false
+    not_hidden x is n none =
         let e = last_is h serves.stands.lawful in
         let same : e.0.header ≡ x = same_Some e.0.header x (sym (told ∙ ap (option_map (λ (j : Entry). j.header)) e.1) ∙ is) in
-        given_only h serves.stands.lawful e.0 e.1 n (ap (λ (y : Header). is_occult y.kind && y.a == n) same ∙ other)
+        given_only h serves.stands.lawful e.0 e.1 n (λ t at. ap (λ (y : Header). hides_as y.kind y t.header) same ∙ none t.header at)
 
     -- .. of an occult all but one
-    pub other_told : (x : Header) → o ≡ Some x → (n : ℕ) → (x.a ≡ n → ⊥) → is_given_up h n ≡ false
-    other_told x is n other =
-        not_named x is n (ap (λ (v : Bool). is_occult x.kind && v) (false_from_ne_true (x.a == n) (λ same. other (eqb-true x.a n same))) ∙ and_false (is_occult x.kind))
+    pub other_told : (x : Header) → o ≡ Some x → x.kind ≡ kind.Occult → (n : ℕ) → (x.a ≡ n → ⊥) → is_given_up h n ≡ false
+    other_told x is occult n other =
+        not_hidden x is n (λ target at. ap (λ (k : Kind). hides_as k x target) occult ∙ false_from_ne_true (x.a == target.jsn) (λ same. other (eqb-true x.a target.jsn same ∙ at)))
 
-    -- .. and of another all
-    pub none_told : (x : Header) → o ≡ Some x → is_occult x.kind ≡ false → (n : ℕ) → is_given_up h n ≡ false
-    none_told x is other n = not_named x is n (ap (λ (v : Bool). v && x.a == n) other)
+    -- .. and all of one that hides nothing
+    pub none_told : (x : Header) → o ≡ Some x → IsPlain x.kind → (n : ℕ) → is_given_up h n ≡ false
+    none_told x is plain n = not_hidden x is n (λ target at. plain_shows x.kind x target plain)
 
-  -- what is given up, as a book tells who hides it
-  pub given_told : (n count : ℕ) (by : Option ℕ) → count ≡ book.size → by ≡ hider h n → is_number by (count - 1) ≡ is_given_up h n
-  given_told n count by all is =
-      ap (λ (k : ℕ). is_number by (k - 1)) (all ∙ serves.stands.counts.size) ∙ ap (λ (o : Option ℕ). is_number o (size h - 1)) is ∙ sym (given_is h serves.stands.lawful n)
+  -- what is given up, as a book tells the point and who hides it
+  module _ (n from : ℕ) (at : from ≡ point h) where
+    pub given_told : (count : ℕ) (by : Option ℕ) → count ≡ book.size → by ≡ hider h n → from ≤ n → is_number by (count - 1) ≡ is_given_up h n
+    given_told count by all is kept =
+        ap (λ (k : ℕ). is_number by (k - 1)) (all ∙ serves.stands.counts.size) ∙ ap (λ (o : Option ℕ). is_number o (size h - 1)) is
+        ∙ ap (λ (v : Bool). v && is_number (hider h n) (size h - 1)) (sym (le-leb (point h) n (omega (arith, at, kept)))) ∙ sym (given_is h serves.stands.lawful n)
+
+    pub front_told : n < from → nat_le from n ≡ is_given_up h n
+    front_told front =
+        lt-leb from n front ∙ ap (λ (v : Bool). v && is_number (hider h n) (size h - 1)) (sym (lt-leb (point h) n (omega (arith, at, front)))) ∙ sym (given_is h serves.stands.lawful n)
 
 -- what was got of the list of places
 pub found_in : {A : Type 0} (list xs : List A) (n : ℕ) (x : A) → xs ≡ list → n < length xs → x ≡ get_or xs n x → slice_get list n ≡ Some x

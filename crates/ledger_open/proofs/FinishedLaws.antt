@@ -1,7 +1,8 @@
 -- A purge is finished: what stands for a history does so at each exit, and at last nothing is left undone.
 use Rattle.std.specs.List.{list_any}
-use Rattle.std.specs.Prelude.{Bool, true, false, not, IsTrue, Option, None, Some, max, slice_get, ◌==◌, if◌then◌else◌}
+use Rattle.std.specs.Prelude.{Bool, true, false, not, IsTrue, Option, None, Some, max, nat_le, slice_get, ◌==◌, if◌then◌else◌}
 use Rattle.std.proofs.Common.{◌≡◌, ◌≢◌, inl, inr, ℕ, ◌+◌, ◌-◌, ◌^◌, ◌<◌, ◌≤◌, ◌&&◌, ◌||◌, List, [], ◌∷◌, ◌++◌, length, take, drop, refl, sym, ◌∙◌, ap, subst, arith, length-append, length-take, length-drop}
+use Rattle.std.proofs.lemmas.Bool.{false_from_ne_true}
 use Rattle.std.proofs.lemmas.List.{nil_from_length, take-append-drop}
 use Rattle.std.proofs.lemmas.List.Folds.{list_any-append}
 use Rattle.block_file.specs.File.{IsSettled, open_blocks, whole_file}
@@ -20,7 +21,7 @@ use Rattle.ledger_model.proofs.LawfulLaws.{some_journal, two_points}
 use Rattle.ledger_model.proofs.PointLaws.{points_few}
 use Rattle.ledger_model.specs.Bases.{base_of}
 use Rattle.ledger_model.specs.History.{History, journals, journals_of, size, point, greatest_point, purge_point, is_purge}
-use Rattle.ledger_model.specs.Targets.{is_hidden, is_hidden_by, is_occult, hides}
+use Rattle.ledger_model.specs.Targets.{is_hidden, is_hidden_by, hides}
 use Rattle.pseudo_genesis.specs.Bases.{base_spelling}
 use Rattle.twin_file.proofs.HeadLaws.{tail_size, generation_is as file_generation}
 use Rattle.twin_file.specs.Places.{HasTail}
@@ -44,6 +45,7 @@ use Rattle.ledger_open.proofs.PlaceLaws.{after_kept, tail_place}
 use Rattle.ledger_open.proofs.PlaceMoves.{places_behind, after_most, after_moved, after_behind}
 use Rattle.ledger_open.proofs.SplitLaws as split
 use Rattle.ledger_open.proofs.StandLaws.{rest, copy_stands, rest_taken, lower as stands_lower}
+use Rattle.ledger_open.proofs.TargetLaws.{hides_stays}
 
 -- ---- how long a file is
 
@@ -62,26 +64,21 @@ ends_at floor zeros image h x =
 
 -- ---- a purge hides nothing
 
-last_of_kind : (before : List Entry) (e : Entry) (k : Kind) → e.header.kind ≡ k → greatest_point before ≢ greatest_point (before ++ e ∷ []) → is_occult k ≡ false
-last_of_kind before e kind.Genesis is apart = refl
-last_of_kind before e kind.Content is apart = refl
-last_of_kind before e kind.Member is apart = refl
-last_of_kind before e kind.Time is apart = refl
-last_of_kind before e kind.Purge is apart = refl
-last_of_kind before e kind.Occult is apart =
-    let none : purge_point e ≡ 0 = ap (λ (k : Kind). if is_purge k then e.header.a else 0) is in
+last_shows : (before : List Entry) (e : Entry) → greatest_point before ≢ greatest_point (before ++ e ∷ []) → (t : Entry) → hides t e ≡ false
+last_shows before e apart t = false_from_ne_true (hides t e) (λ is.
+    let none : purge_point e ≡ 0 = ap (λ (v : Bool). if v then e.header.a else 0) (hides_stays e.header.kind e.header t.header is) in
     let both : greatest_point (before ++ e ∷ []) ≡ max (greatest_point before) (max 0 (purge_point e)) = two_points before (e ∷ []) in
-    absurd (apart (omega (arith, none, both)))
+    apart (omega (arith, none, both)))
 
 last_one : (es : List Entry) → length es ≡ 1 → (e : Entry) × (es ≡ e ∷ [])
 last_one [] one = absurd (omega (arith, one))
 last_one (e ∷ []) one = (e, refl)
 last_one (e ∷ f ∷ es) one = absurd (omega (arith, one))
 
-hidden_same : (before : List Entry) (e : Entry) (target : Option Entry) → is_occult e.header.kind ≡ false → is_hidden_by (before ++ e ∷ []) target ≡ is_hidden_by before target
-hidden_same before e None other = refl
-hidden_same before e (Some t) other =
-    list_any-append (hides t) before (e ∷ []) ∙ ap (λ (v : Bool). list_any (hides t) before || ((v && e.header.a == t.header.jsn) || false)) other ∙ or_false (list_any (hides t) before)
+hidden_same : (before : List Entry) (e : Entry) (target : Option Entry) → ((t : Entry) → hides t e ≡ false) → is_hidden_by (before ++ e ∷ []) target ≡ is_hidden_by before target
+hidden_same before e None none = refl
+hidden_same before e (Some t) none =
+    list_any-append (hides t) before (e ∷ []) ∙ ap (λ (v : Bool). list_any (hides t) before || (v || false)) (none t) ∙ or_false (list_any (hides t) before)
   where
     or_false : (v : Bool) → (v || false) ≡ v
     or_false true = refl
@@ -93,16 +90,17 @@ none_new h some apart n =
     let es = journals h in
     let one = last_one (drop (size h - 1) es) (omega (arith, some, length-drop (size h - 1) es)) in
     let parts : es ≡ take (size h - 1) es ++ one.0 ∷ [] = sym (take-append-drop (size h - 1) es) ∙ ap (λ (l : List Entry). take (size h - 1) es ++ l) one.1 in
-    let other : is_occult one.0.header.kind ≡ false = last_of_kind (take (size h - 1) es) one.0 one.0.header.kind refl (λ same. apart (same ∙ ap greatest_point (sym parts))) in
-    ap (λ (l : List Entry). is_hidden_by l (slice_get es n)) parts ∙ hidden_same (take (size h - 1) es) one.0 (slice_get es n) other
+    ap (λ (l : List Entry). is_hidden_by l (slice_get es n)) parts
+    ∙ hidden_same (take (size h - 1) es) one.0 (slice_get es n) (last_shows (take (size h - 1) es) one.0 (λ same. apart (same ∙ ap greatest_point (sym parts))))
 
 -- .. nor gives a content up
 pub none_given : (h : History) → 1 ≤ size h → point_before h ≢ point h → (n : ℕ) → is_given_up h n ≡ false
-none_given h some apart n = of_same (is_hidden h n) (hidden_before h n) (none_new h some apart n) where
-  of_same : (v w : Bool) → v ≡ w → (v && not w) ≡ false
-  of_same true true is = refl
-  of_same true false is = is
-  of_same false w is = refl
+none_given h some apart n = of_same (nat_le (point h) n) (is_hidden h n) (hidden_before h n) (none_new h some apart n) where
+  of_same : (u v w : Bool) → v ≡ w → (u && (v && not w)) ≡ false
+  of_same false v w is = refl
+  of_same true true true is = refl
+  of_same true true false is = is
+  of_same true false w is = refl
 
 abbrev erased_now : (image : List ℕ) (h : History) → ((n : ℕ) → is_hidden h n ≡ hidden_before h n) → (x : StandsBy (point h) (hidden_before h) image h) → IsErased image h
 erased_now image h same x = record {

@@ -67,6 +67,7 @@ genesis_first kind.Member jsn ok is = let lt = ltb-true 0 jsn ok in absurd (omeg
 genesis_first kind.Time jsn ok is = let lt = ltb-true 0 jsn ok in absurd (omega (arith, lt, is))
 genesis_first kind.Occult jsn ok is = let lt = ltb-true 0 jsn ok in absurd (omega (arith, lt, is))
 genesis_first kind.Purge jsn ok is = let lt = ltb-true 0 jsn ok in absurd (omega (arith, lt, is))
+genesis_first kind.ClueOccult jsn ok is = let lt = ltb-true 0 jsn ok in absurd (omega (arith, lt, is))
 
 pub genesis_of : (e : Entry) (es : List Entry) → AreBlock 0 (e ∷ es) → e.header.kind ≡ kind.Genesis
 genesis_of e es b = genesis_first e.header.kind e.header.jsn b.readable.0.rules.jsn b.begins

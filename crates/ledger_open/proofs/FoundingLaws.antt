@@ -65,7 +65,7 @@ module _ (genesis : Genesis) (operator : length genesis.operator.0 ≡ 32) (regu
   unfolding genesis_header
   entry_is = record {
     jsn = refl;
-    rules = record { version = refl; jsn = refl; member = refl; clue = refl; clue_ord = refl; clue_prev = refl; a = refl; b = refl; content_len = refl };
+    rules = record { version = refl; jsn = refl; member = refl; clue = refl; clue_ord = refl; clue_prev = refl; a = refl; b = refl; link = refl; content_len = refl };
     widths = record {
       version = omega arith;
       jsn = omega arith;

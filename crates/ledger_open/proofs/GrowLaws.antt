@@ -2,7 +2,7 @@
 use Rattle.std.specs.List.{list_any, list_all}
 use Rattle.std.specs.Prelude.{◌==◌, cond, max, slice_get}
 use Rattle.std.proofs.Common.{◌≡◌, ◌≢◌, ◌⊎◌, inl, inr, ℕ, zero, suc, ◌+◌, ◌-◌, ◌≤◌, Bool, true, false, ◌&&◌, ◌||◌, List, [], ◌∷◌, ◌++◌, length, take, drop, Option, refl, sym, ◌∙◌, ap, subst, arith, append_assoc, append-nil, length-append}
-use Rattle.std.proofs.lemmas.Bool.{eqb-true, eq-eqb, true≢false, and_parts}
+use Rattle.std.proofs.lemmas.Bool.{eqb-true, eq-eqb, true≢false, false_from_ne_true, and_parts}
 use Rattle.std.proofs.lemmas.List.{map-append, take-append-drop}
 use Rattle.std.proofs.lemmas.List.Elements.{All-push}
 use Rattle.std.proofs.lemmas.Option.{slice_get_past}
@@ -11,19 +11,19 @@ use Rattle.journal_record.specs.Blocks.{block_bytes, leaves_of, AreFrom, IsBlock
 use Rattle.journal_record.specs.Entry.{Entry}
 use Rattle.journal_record.specs.Header.{spelling}
 use Rattle.journal_record.specs.declared.header.Kind.{Kind}
-use Rattle.journal_record.specs.declared.header.Kind.TheVariants.{Genesis, Content, Member, Time, Occult, Purge}
+use Rattle.journal_record.specs.declared.header.Kind.TheVariants.{Genesis, Content, Member, Time, Occult, Purge, ClueOccult}
 use Rattle.ledger_model.specs.History.{History, history, journals_of, journals, size, point, greatest_point, is_purge}
 use Rattle.ledger_model.specs.Lawful as lawful
 use Rattle.ledger_model.specs.Lawful.{AreNext, gathers, AllGather, IsFounded, IsLawful}
-use Rattle.ledger_model.specs.Targets.{is_occult, hides, is_hidden_by, is_hidden}
+use Rattle.ledger_model.specs.Targets.{hides, is_hidden_by, is_hidden}
 use Rattle.ledger_model.proofs.BaseLaws.{more_journals}
-use Rattle.ledger_model.proofs.HideLaws.{named_before}
+use Rattle.ledger_model.proofs.HideLaws.{gathered_show}
 use Rattle.ledger_model.proofs.LawfulLaws.{hide_none, lawful_from, some_journal, two_points}
 use Rattle.ledger_open.specs.Heads.{Edition}
 use Rattle.ledger_open.specs.Growing.{HasBlockMore}
 use Rattle.ledger_open.specs.Standing.{Floor, floor_behind, HasBlocks, AllKept, SameButHidden, hidden_before, point_before, StandsFor, IsErased, StandsBy, Reads}
 use Rattle.ledger_open.proofs.FloorLaws.{floor_first, floor_kept}
-use Rattle.ledger_open.proofs.HidingLaws.{hidden_among, journals_closed, hidden_push, take_over, before_push, before_hidden}
+use Rattle.ledger_open.proofs.HidingLaws.{none_hides, any_take, hidden_among, journals_closed, hidden_push, take_over, before_push, before_hidden}
 use Rattle.ledger_open.proofs.KeptLaws.{all_kept, same_more, same_weaker}
 use Rattle.ledger_open.proofs.LikeLaws.{count_kept}
 use Rattle.ledger_open.proofs.PartLaws.{size_parts, stands_whole, early_most}
@@ -96,20 +96,8 @@ all_self hid gone m (e ∷ es) a g = (
 )
 
 -- what gathers hides nothing
-gathers_shows : (k : Kind) (a n : ℕ) → gathers k ≡ true → (is_occult k && a == n) ≡ false
-gathers_shows Genesis a n g = refl
-gathers_shows Content a n g = refl
-gathers_shows Member a n g = refl
-gathers_shows Time a n g = refl
-gathers_shows Occult a n g = absurd (true≢false (sym g))
-gathers_shows Purge a n g = refl
-
-all_shows : (target : Entry) (k : ℕ) (es : List Entry) → list_all (λ e. gathers e.header.kind) es ≡ true → list_any (hides target) (take k es) ≡ false
-all_shows target zero es g = refl
-all_shows target (suc k) [] g = refl
-all_shows target (suc k) (e ∷ es) g =
-    let both = and_parts (gathers e.header.kind) (list_all (λ (e : Entry). gathers e.header.kind) es) g in
-    ap (λ (v : Bool). v || list_any (hides target) (take k es)) (gathers_shows e.header.kind e.header.a target.header.jsn both.0) ∙ all_shows target k es both.1
+all_shows : (target : Entry) (k : ℕ) (es : List Entry) → AllGather es → list_any (hides target) (take k es) ≡ false
+all_shows target k es g = false_from_ne_true (list_any (hides target) (take k es)) (λ is. true≢false (sym (any_take (hides target) k es is) ∙ gathered_show target es g))
 
 -- no journal of a block but its last hides another
 hides_last : (target : Entry) (b : List Entry) → (length b ≢ 1 → AllGather b) → list_any (hides target) (take (length b - 1) b) ≡ false
@@ -126,6 +114,7 @@ gathers_none Content a g = refl
 gathers_none Member a g = refl
 gathers_none Time a g = refl
 gathers_none Occult a g = refl
+gathers_none ClueOccult a g = refl
 gathers_none Purge a g = absurd (true≢false (sym g))
 
 -- journals that gather purge nothing
@@ -173,7 +162,7 @@ module _ (image new : List ℕ) (h : History) (b : List Entry) (x : IsErased ima
 
   none_later : (t : Entry) → size h ≤ t.header.jsn → list_any (hides t) (journals_of h.closed) ≡ false
   none_later t le =
-      ap (list_any (hides t)) (sym (journals_closed h x.none)) ∙ named_before 0 t.header.jsn (journals h) (lawful_from (journals h) x.lawful.journals_are) (omega (arith, le))
+      ap (list_any (hides t)) (sym (journals_closed h x.none)) ∙ none_hides t 0 (journals h) (lawful_from (journals h) x.lawful.journals_are) (omega (arith, le))
 
   old : (n : ℕ) → is_hidden_by (journals_of h.closed) (target n) ≡ is_hidden h n
   old n =

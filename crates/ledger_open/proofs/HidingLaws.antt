@@ -1,10 +1,13 @@
 -- What hides a content, as a history grows.
 use Rattle.std.specs.List.{list_any}
+use Rattle.std.specs.Option.{is_some}
 use Rattle.std.specs.Prelude.{slice_get}
 use Rattle.std.proofs.Common.{◌≡◌, ℕ, zero, suc, ◌+◌, ◌-◌, ◌≤◌, Bool, true, false, ◌||◌, List, [], ◌∷◌, ◌++◌, length, take, drop, Option, None, Some, refl, sym, ◌∙◌, ap, subst, arith, append-nil, length-append, take-append-drop}
 use Rattle.std.proofs.lemmas.List.Concat.{flat_map-append}
 use Rattle.std.proofs.lemmas.List.Folds.{list_any-append}
 use Rattle.journal_record.specs.Entry.{Entry}
+use Rattle.ledger_model.proofs.HideLaws.{named_is, none_named, hides_behind}
+use Rattle.ledger_model.proofs.LawfulLaws as lawful
 use Rattle.ledger_model.specs.History.{History, history, journals_of, journals, size}
 use Rattle.ledger_model.specs.Targets.{hides, is_hidden_by, is_hidden}
 use Rattle.journal_record.specs.Blocks.{AreFrom, AreBlocks}
@@ -17,6 +20,11 @@ from_more m (e ∷ es) fs a b = (a.0, from_more (m + 1) es fs a.1 (subst (λ (n 
 pub from_blocks : (m : ℕ) (bs : List (List Entry)) → AreBlocks m bs → AreFrom m (journals_of bs)
 from_blocks m [] a = tt
 from_blocks m (b ∷ bs) a = from_more m b (journals_of bs) a.0.entries (from_blocks (m + length b) bs a.1)
+
+-- journals in front of one don't hide it
+pub none_hides : (target : Entry) (m : ℕ) (es : List Entry) → lawful.AreFrom m es → m + length es ≤ target.header.jsn → list_any (hides target) es ≡ false
+none_hides target m es from few =
+    named_is (hides target) es ∙ ap is_some (none_named (hides target) m target.header.jsn es (hides_behind target) from (omega (arith, few)))
 
 -- journals that hide none from this number on hide as much among more journals as among those below it
 module _ (hiders : List Entry) (low : ℕ) (none : (t : Entry) → low ≤ t.header.jsn → list_any (hides t) hiders ≡ false) where
@@ -61,7 +69,7 @@ before_push bs b n some =
       less = omega (arith, some, length-append (journals_of bs) b)
 
 -- what a journal before the last hides is hidden
-any_take : (p : Entry → Bool) (k : ℕ) (es : List Entry) → list_any p (take k es) ≡ true → list_any p es ≡ true
+pub any_take : (p : Entry → Bool) (k : ℕ) (es : List Entry) → list_any p (take k es) ≡ true → list_any p es ≡ true
 any_take p k es t = by_parts (list_any p (drop k es)) (list_any p (take k es)) t (ap (list_any p) (sym (parted k es)) ∙ list_any-append p (take k es) (drop k es)) where
   parted : (k : ℕ) (es : List Entry) → take k es ++ drop k es ≡ es
   parted k es = take-append-drop k es

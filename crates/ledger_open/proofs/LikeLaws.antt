@@ -1,5 +1,6 @@
 -- What histories have in common that agree but for hidden contents: all that depends on headers, and on the first content.
 use Rattle.std.specs.List.{fold}
+use Rattle.std.specs.Option.{is_some}
 use Rattle.std.specs.Prelude.{◌==◌, filter, find, option_map, slice_get, drop, max, not, nat_lt, nat_le, bytes_eq}
 use Rattle.std.specs.Set.{distinct_count}
 use Rattle.std.proofs.Common.{◌≡◌, ℕ, zero, suc, ◌+◌, ◌≤◌, Bool, true, false, cond, ◌&&◌, List, [], ◌∷◌, ◌++◌, length, get_or, map, take, Option, Some, None, refl, sym, ◌∙◌, ap, subst, arith, length-append}
@@ -16,6 +17,7 @@ use Rattle.journal_record.specs.declared.member.Member.{Member}
 use Rattle.ledger_book.specs.Books.{Kept, Serves, leaf_digests, aged_members}
 use Rattle.ledger_bytes.specs.declared.digest.Digest.{Digest}
 use Rattle.ledger_bytes.specs.declared.refusal.Refusal.TheVariants.{CluesFull}
+use Rattle.ledger_model.proofs.HideLaws.{hidden_is}
 use Rattle.ledger_model.proofs.LawfulLaws.{AreFrom, lawful_from}
 use Rattle.ledger_model.specs.Bases.{clue_mark_of}
 use Rattle.ledger_model.specs.Bounds.{marks_of}
@@ -25,7 +27,7 @@ use Rattle.ledger_model.specs.History.{History, history, journals_of, journals, 
 use Rattle.ledger_model.specs.Judgements.{clues_full}
 use Rattle.ledger_model.specs.Lawful.{AreLawful}
 use Rattle.ledger_model.specs.Limits.{real_limits}
-use Rattle.ledger_model.specs.Targets.{is_occult, hider_among, hider}
+use Rattle.ledger_model.specs.Targets.{hides_as, is_hidden, hider_among, hider}
 use Rattle.ledger_model.specs.Members.{founders, is_member, member_of, admitted_members, members}
 use Rattle.merkle_batch.specs.Rows.{StandsFor}
 use Rattle.proof_codec.specs.Claims as claims
@@ -68,14 +70,21 @@ header_find_same {A} hid gone p f (x ∷ xs) (y ∷ ys) a =
 -- who hides a journal: by what is kept, and of what is kept
 hider_by : (hid gone : ℕ → Bool) (target : Option Entry) (es fs : List Entry) → AllKept hid gone es fs → hider_among es target ≡ hider_among fs target
 hider_by hid gone None es fs a = refl
-hider_by hid gone (Some t) es fs a = header_find_same hid gone (λ (x : Header). is_occult x.kind && x.a == t.header.jsn) (λ (x : Header). x.jsn) es fs a
+hider_by hid gone (Some t) es fs a = header_find_same hid gone (λ (x : Header). hides_as x.kind x t.header) (λ (x : Header). x.jsn) es fs a
 
 hider_of : (hid gone : ℕ → Bool) (hiders es fs : List Entry) (n : ℕ) → AllKept hid gone es fs → hider_among hiders (slice_get es n) ≡ hider_among hiders (slice_get fs n)
 hider_of hid gone hiders [] [] n a = refl
 hider_of hid gone hiders [] (f ∷ fs) n a = absurd a
 hider_of hid gone hiders (e ∷ es) [] n a = absurd a
-hider_of hid gone hiders (e ∷ es) (f ∷ fs) zero a = ap (λ (x : Header). option_map (λ (j : Entry). j.header.jsn) (find (λ (j : Entry). is_occult j.header.kind && j.header.a == x.jsn) hiders)) (sym a.0.header)
+hider_of hid gone hiders (e ∷ es) (f ∷ fs) zero a = ap (λ (x : Header). option_map (λ (j : Entry). j.header.jsn) (find (λ (j : Entry). hides_as j.header.kind j.header x) hiders)) (sym a.0.header)
 hider_of hid gone hiders (e ∷ es) (f ∷ fs) (suc n) a = hider_of hid gone hiders es fs n a.1
+
+pub hider_same : (hid gone : ℕ → Bool) (es fs : List Entry) (n : ℕ) → AllKept hid gone es fs → hider (history [] es) n ≡ hider (history [] fs) n
+hider_same hid gone es fs n a = hider_by hid gone (slice_get es n) es fs a ∙ hider_of hid gone fs es fs n a
+
+-- .. so whether it is hidden
+pub hidden_same : (hid gone : ℕ → Bool) (es fs : List Entry) (n : ℕ) → AllKept hid gone es fs → is_hidden (history [] es) n ≡ is_hidden (history [] fs) n
+hidden_same hid gone es fs n a = hidden_is (history [] es) n ∙ ap is_some (hider_same hid gone es fs n a) ∙ sym (hidden_is (history [] fs) n)
 
 kept_drop : (hid gone : ℕ → Bool) (n : ℕ) (es fs : List Entry) → AllKept hid gone es fs → AllKept hid gone (drop n es) (drop n fs)
 kept_drop hid gone zero es fs a = a
@@ -188,7 +197,7 @@ module _ (hid gone : ℕ → Bool) (h k : History) (same : SameButHidden hid gon
   id_alike = first_of (journals h) ∙ ap (λ (l : List (List ℕ)). get_or l 0 []) digests_alike ∙ sym (first_of (journals k))
 
   hider_alike : (n : ℕ) → hider h n ≡ hider k n
-  hider_alike n = hider_by hid gone (slice_get (journals h) n) (journals h) (journals k) journals_alike ∙ hider_of hid gone (journals k) (journals h) (journals k) n journals_alike
+  hider_alike n = hider_same hid gone (journals h) (journals k) n journals_alike
 
   seen_alike : (floor : ℕ) → seen_point floor h ≡ seen_point floor k
   unfolding seen_point

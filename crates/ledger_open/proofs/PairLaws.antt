@@ -1,7 +1,7 @@
 -- Histories of which one file keeps the same, and which a pair of files stands for.
 use Rattle.std.specs.List.{list_any}
-use Rattle.std.specs.Prelude.{All, Bool, false}
-use Rattle.std.proofs.Common.{◌≡◌, ◌≢◌, ◌⊎◌, ℕ, ◌+◌, ◌≤◌, ◌&&◌, ◌||◌, ◌==◌, List, [], ◌∷◌, ◌++◌, length, refl, sym, ◌∙◌, ap, subst, arith, length-append}
+use Rattle.std.specs.Prelude.{All, Bool, false, slice_get, suc, Option, Some, None}
+use Rattle.std.proofs.Common.{◌≡◌, ◌≢◌, ◌⊎◌, ℕ, ◌+◌, ◌-◌, ◌≤◌, ◌||◌, List, [], ◌∷◌, ◌++◌, length, refl, sym, ◌∙◌, ap, subst, arith, length-append}
 use Rattle.std.proofs.lemmas.List.Elements.{All-head}
 use Rattle.std.proofs.lemmas.List.Folds.{list_any-append}
 use Rattle.journal_record.specs.Blocks as blocks
@@ -11,18 +11,20 @@ use Rattle.journal_record.specs.declared.header.Header.{Header}
 use Rattle.pseudo_genesis.specs.Bases.{base_spelling, front_text}
 use Rattle.pseudo_genesis.specs.declared.base.Base.{Base}
 use Rattle.ledger_model.specs.Bases.{base_of}
-use Rattle.ledger_model.specs.History.{History, journals, journals_of, point}
+use Rattle.ledger_model.specs.History.{History, history, journals, journals_of, point}
 use Rattle.ledger_model.specs.Lawful.{IsBlock}
-use Rattle.ledger_model.specs.Targets.{is_occult, is_hidden}
+use Rattle.ledger_model.specs.Targets.{hides, is_hidden_by, is_hidden}
 use Rattle.ledger_model.proofs.BaseLaws.{one_spelling}
-use Rattle.ledger_model.proofs.HideLaws.{names, hidden_named, named_before}
+use Rattle.ledger_model.proofs.HideLaws.{number_at}
 use Rattle.ledger_model.proofs.LawfulLaws.{AreFrom, lawful_from}
 use Rattle.twin_file.specs.Twin.{choice}
 use Rattle.ledger_open.specs.Standing.{Floor, floor_of, floor_behind, HasBlocks, AllKept, SameButHidden, StandsBy, StandsFor, PairFor, Alike, hidden_before, point_before}
 use Rattle.ledger_open.proofs.AgainLaws.{blocks_unique, front_again, flat}
 use Rattle.ledger_open.proofs.FloorLaws.{floor_first, floor_digests}
 use Rattle.ledger_open.proofs.HeadLaws.{pair_takes, taken_is}
-use Rattle.ledger_open.proofs.KeptLaws.{all_kept, header_any_same, same_alike}
+use Rattle.ledger_open.proofs.HidingLaws.{none_hides}
+use Rattle.ledger_open.proofs.KeptLaws.{all_kept, same_alike}
+use Rattle.ledger_open.proofs.LikeLaws.{hidden_same}
 use Rattle.ledger_open.proofs.PartLaws.{halves, first_ones, floor_few}
 use Rattle.ledger_open.proofs.WidthLaws.{base_rules}
 
@@ -30,14 +32,29 @@ from_front : (m : ℕ) (es fs : List Entry) → AreFrom m (es ++ fs) → AreFrom
 from_front m [] fs from = tt
 from_front m (e ∷ es) fs from = (from.0, from.1, from_front (m + 1) es fs from.2)
 
+-- one of the journals behind others, by its number among them
+got_behind : (es fs : List Entry) (k : ℕ) → slice_get (es ++ fs) (length es + k) ≡ slice_get fs k
+got_behind [] fs k = let same : 0 + k ≡ k = omega arith in ap (slice_get fs) same
+got_behind (e ∷ es) fs k = let same : length (e ∷ es) + k ≡ suc (length es + k) = omega arith in ap (slice_get (e ∷ es ++ fs)) same ∙ got_behind es fs k
+
+-- those in front of it don't hide it
+hidden_behind : (es fs : List Entry) (k : ℕ) → AreFrom 0 (es ++ fs) → is_hidden (history [] (es ++ fs)) (length es + k) ≡ is_hidden (history [] fs) k
+hidden_behind es fs k from = ap (is_hidden_by (es ++ fs)) (got_behind es fs k) ∙ by_target (slice_get fs k) refl where
+  by_target : (target : Option Entry) → slice_get fs k ≡ target → is_hidden_by (es ++ fs) target ≡ is_hidden_by fs target
+  by_target None at = refl
+  by_target (Some target) at =
+      list_any-append (hides target) es fs
+      ∙ ap (λ (v : Bool). v || list_any (hides target) fs) (none_hides target 0 es (from_front 0 es fs from) (omega (arith, number_at 0 (length es + k) (es ++ fs) target from (got_behind es fs k ∙ at))))
+
 -- what hides a journal that a file has stands in the file
-pub hidden_here : (floor : ℕ) (zeros : ℕ → Bool) (image : List ℕ) (h : History) (x : StandsBy floor zeros image h) (n : ℕ) → floor ≤ n → is_hidden h n ≡ list_any (names n) (journals_of x.keeps.blocks)
+pub hidden_here : (floor : ℕ) (zeros : ℕ → Bool) (image : List ℕ) (h : History) (x : StandsBy floor zeros image h) (n : ℕ) → floor ≤ n → is_hidden h n ≡ is_hidden (history [] (journals_of x.keeps.blocks)) (n - floor)
 hidden_here floor zeros image h x n le =
     let both = halves floor h x.none x.parts in
-    let from = from_front 0 (journals_of x.parts.gone) (journals_of x.parts.kept) (subst (AreFrom 0) both (lawful_from (journals h) x.lawful.journals_are)) in
-    hidden_named h n x.lawful.journals_are ∙ ap (list_any (names n)) both ∙ list_any-append (names n) (journals_of x.parts.gone) (journals_of x.parts.kept)
-    ∙ ap (λ (v : Bool). v || list_any (names n) (journals_of x.parts.kept)) (named_before 0 n (journals_of x.parts.gone) from (omega (arith, le, x.parts.at)))
-    ∙ header_any_same (is_hidden h) zeros (λ (y : Header). is_occult y.kind && y.a == n) (journals_of x.parts.kept) (journals_of x.keeps.blocks) (all_kept (is_hidden h) zeros x.parts.kept x.keeps.blocks x.keeps.same)
+    let at : n ≡ length (journals_of x.parts.gone) + (n - floor) = omega (arith, le, x.parts.at) in
+    ap (λ (es : List Entry). is_hidden (history [] es) n) both
+    ∙ ap (is_hidden (history [] (journals_of x.parts.gone ++ journals_of x.parts.kept))) at
+    ∙ hidden_behind (journals_of x.parts.gone) (journals_of x.parts.kept) (n - floor) (subst (AreFrom 0) both (lawful_from (journals h) x.lawful.journals_are))
+    ∙ hidden_same (is_hidden h) zeros (journals_of x.parts.kept) (journals_of x.keeps.blocks) (n - floor) (all_kept (is_hidden h) zeros x.parts.kept x.keeps.blocks x.keeps.same)
 
 -- what is kept depends on what is hidden of the journals that are there
 all_from : (hid hid′ gone : ℕ → Bool) (p m : ℕ) (es fs : List Entry) → blocks.AreFrom m fs → p ≤ m → ((n : ℕ) → p ≤ n → hid′ n ≡ false → hid n ≡ false) → AllKept hid gone es fs → AllKept hid′ gone es fs
@@ -102,7 +119,9 @@ one_history p q zeros zeros′ image h k x y begins one =
     let same : x.keeps.blocks ≡ y.keeps.blocks = (blocks_unique (floor_behind h x.parts.gone) x.edition y.edition x.keeps.blocks y.keeps.blocks image (floor_digests h x.parts.gone x.parts.kept x.parts.are) fx fy′).1 in
     let kept : SameButHidden (is_hidden k) zeros′ y.parts.kept x.keeps.blocks = subst (λ (bs : List (List Entry)). SameButHidden (is_hidden k) zeros′ y.parts.kept bs) (sym same) y.keeps.same in
     let hide : (n : ℕ) → p ≤ n → is_hidden h n ≡ is_hidden k n =
-    λ n le. hidden_here p zeros image h x n le ∙ ap (λ (bs : List (List Entry)). list_any (names n) (journals_of bs)) same ∙ sym (hidden_here q zeros′ image k y n (omega (arith, le, at))) in
+    λ n le.
+    hidden_here p zeros image h x n le ∙ ap (λ (bs : List (List Entry)). is_hidden (history [] (journals_of bs)) (n - p)) same
+    ∙ ap (λ (m : ℕ). is_hidden (history [] (journals_of y.keeps.blocks)) (n - m)) at ∙ sym (hidden_here q zeros′ image k y n (omega (arith, le, at))) in
     let first : (floor_behind h x.parts.gone).first ≡ p = floor_first h x.parts.gone ∙ x.parts.at in
     let there : SameButHidden (is_hidden h) zeros′ y.parts.kept x.keeps.blocks =
     same_from (is_hidden k) (is_hidden h) zeros′ p (floor_behind h x.parts.gone).first y.parts.kept x.keeps.blocks fx.lawful (omega (arith, first)) (λ n le s. sym (hide n le) ∙ s) kept in

@@ -1,11 +1,14 @@
 -- Each journal of a lawful history is the next one behind no base, and whether it is depends on headers alone.
 use Rattle.std.specs.List.{list_any}
-use Rattle.std.specs.Prelude.{Bool, cond, filter, Option, Some, None}
+use Rattle.std.specs.Prelude.{Bool, cond, filter, nat_le, not, Option, Some, None}
 use Rattle.std.proofs.Common.{◌≡◌, ℕ, ◌+◌, ◌-◌, ◌<◌, ◌≤◌, ◌&&◌, ◌==◌, List, [], ◌∷◌, ◌++◌, length, get_or, map, refl, sym, ◌∙◌, ap, subst, arith, append_assoc, length-append}
+use Rattle.std.proofs.lemmas.List.{length-map, nil_from_length}
+use Rattle.std.proofs.lemmas.List.Elements.{filter_agree}
 use Rattle.sha2.specs.Sha256.{sha256}
 use Rattle.tree_model.specs.Tree.{leaf}
 use Rattle.clue_index.specs.Added.{Added, Mark, trail_of, different_clues}
 use Rattle.clue_index.specs.Trail.{count_of, last_of}
+use Rattle.ledger_bytes.specs.declared.digest.Digest.{Digest}
 use Rattle.journal_record.specs.Entry.{Entry}
 use Rattle.journal_record.specs.Header.{spelling}
 use Rattle.journal_record.specs.Rules.{is_no_clue}
@@ -14,18 +17,18 @@ use Rattle.journal_record.specs.declared.header.Kind.{Kind}
 use Rattle.journal_record.specs.declared.header.Kind.TheVariants as kind
 use Rattle.ledger_book.proofs.GroundLaws.{ground_next}
 use Rattle.ledger_book.proofs.NumberedLaws.{told_numbered}
-use Rattle.ledger_model.specs.Behind.{first_of, count_behind, clues_behind, numbered_from, has_own_purge, is_purge_to, names, IsOwnBehind, BeginsWell, IsNextBehind, AreBehind}
+use Rattle.ledger_model.specs.Behind.{first_of, count_behind, clues_behind, numbered_from, has_own_purge, is_purge_to, shown_behind, IsOwnBehind, BeginsWell, IsNextBehind, AreBehind}
 use Rattle.ledger_model.specs.Bases.{clue_mark_of}
-use Rattle.ledger_model.specs.Clues.{has_clue}
+use Rattle.ledger_model.specs.Clues.{has_clue, is_of_clue}
 use Rattle.ledger_model.specs.History.{history, greatest_point}
 use Rattle.ledger_model.specs.Lawful.{AreLawful, IsNext}
 use Rattle.ledger_model.specs.Members.{is_member, member_of}
-use Rattle.ledger_model.specs.Targets.{is_occult, kind_at, leaf_at}
+use Rattle.ledger_model.specs.Targets.{is_occult, names, hides_as, hides, kind_at, leaf_at}
 use Rattle.pseudo_genesis.specs.declared.base.Base.{Base}
 use Rattle.ledger_open.specs.Standing.{AllKept}
 use Rattle.ledger_open.proofs.FirstLaws.{genesis_first}
 use Rattle.ledger_open.proofs.KeptLaws.{all_more, header_map_same, header_any_same}
-use Rattle.ledger_open.proofs.LikeLaws.{bare, header_filter_same, count_kept, greatest_kept, members_count}
+use Rattle.ledger_open.proofs.LikeLaws.{bare, header_filter_same, hidden_same, count_kept, greatest_kept, members_count}
 use Rattle.ledger_open.proofs.NextLaws.{lawful_front, next_one}
 
 -- ---- behind no base
@@ -86,6 +89,19 @@ module _ (start : Option Base) (hid gone : ℕ → Bool) (es fs : List Entry) (a
   owned_kept None = refl
   owned_kept (Some b) = header_any_same hid gone (is_purge_to b.point) es fs a
 
+  -- the records of a clue that are shown
+  shown_kept : (clue : Digest) → map (λ (e : Entry). e.header) (shown_behind es clue) ≡ map (λ (e : Entry). e.header) (shown_behind fs clue)
+  shown_kept clue =
+      header_filter_same hid gone (λ (x : Header). is_of_clue clue (bare x) && (nat_le (greatest_point es) x.jsn && not (list_any (hides (bare x)) es))) (λ (x : Header). x) es fs a
+      ∙ ap (map (λ (e : Entry). e.header)) (filter_agree (λ (e : Entry). is_of_clue clue e && (nat_le (greatest_point es) e.header.jsn && not (list_any (hides e) es))) _ (λ e.
+      ap (λ (p : ℕ). is_of_clue clue e && (nat_le p e.header.jsn && not (list_any (hides e) es))) points
+      ∙ ap (λ (v : Bool). is_of_clue clue e && (nat_le (greatest_point fs) e.header.jsn && not v)) (header_any_same hid gone (λ (x : Header). hides_as x.kind x e.header) es fs a)) fs)
+
+  none_shown : (clue : Digest) → shown_behind fs clue ≡ [] → shown_behind es clue ≡ []
+  none_shown clue none =
+      nil_from_length (shown_behind es clue)
+      (omega (arith, ap length (shown_kept clue), length-map (shown_behind es clue) (λ (e : Entry). e.header), length-map (shown_behind fs clue) (λ (e : Entry). e.header), ap length none))
+
   own_kept : (x : Header) (k : Kind) → IsOwnBehind start es x k → IsOwnBehind start fs x k
   own_kept x kind.Genesis o = tt
   own_kept x kind.Content o = record {
@@ -98,11 +114,16 @@ module _ (start : Option Base) (hid gone : ℕ → Bool) (es fs : List Entry) (a
   own_kept x kind.Member o = o ∙ count_same start
   own_kept x kind.Time o = tt
   own_kept x kind.Occult o = record {
-    shown = sym (named_kept x.a) ∙ o.shown;
+    named = λ less. sym (named_kept x.a) ∙ o.named less;
+    shown = λ le. sym (hidden_same hid gone es fs (x.a - first_of start) a) ∙ o.shown le;
     front = λ less. sym (owned_kept start) ∙ o.front less;
     kept = λ le. omega (arith, o.kept le, points);
     target_is = λ le. sym (kind_kept (x.a - first_of start)) ∙ o.target_is le;
     leaf_is = λ le. o.leaf_is le ∙ leaf_kept (x.a - first_of start);
+  }
+  own_kept x kind.ClueOccult o = record {
+    count = o.count ∙ ap (λ (t : Added). count_of (trail_of t x.link.0)) (clues_kept start);
+    shown = λ owned none. o.shown (owned_kept start ∙ owned) (none_shown x.link none);
   }
   own_kept x kind.Purge o = record { above = omega (arith, o.above, points); target_is = λ le. sym (kind_kept (x.a - first_of start)) ∙ o.target_is le }
 

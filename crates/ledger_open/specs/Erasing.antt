@@ -1,6 +1,6 @@
 -- How the contents that the last journal hides are given up.
 use Rattle.std.specs.List.{Contains}
-use Rattle.std.specs.Prelude.{◌≡◌, ◌⊎◌, ℕ, ◌+◌, ◌-◌, ◌≤◌, ◌&&◌, if◌then◌else◌, All, List, [], ◌∷◌, Bool, false, not, length, map, take, drop, get_or, replicate}
+use Rattle.std.specs.Prelude.{◌≡◌, ◌⊎◌, ℕ, ◌+◌, ◌-◌, ◌≤◌, ◌&&◌, if◌then◌else◌, All, List, [], ◌∷◌, Bool, false, not, length, map, take, drop, get_or, nat_le, replicate}
 use Rattle.block_file.specs.File.{IsSettled}
 use Rattle.journal_record.specs.Entry.{Entry}
 use Rattle.ledger_book.specs.Books.{Kept, Serves}
@@ -47,9 +47,10 @@ with_zeros (p ∷ places) file = with_zeros places (overlay p.content_at (replic
 
 -- ---- the contents that the last journal hides
 
--- whether the content of journal n is given up: the last journal of the history hides it, and none before that does
+-- whether the content of journal n is given up: no purge took it, the last journal of the history hides it, and none before
+-- that does
 abbrev pub is_given_up : History → ℕ → Bool
-is_given_up h n = is_hidden h n && not (hidden_before h n)
+is_given_up h n = nat_le (point h) n && (is_hidden h n && not (hidden_before h n))
 
 -- of the places of journals from this number on, those of journals whose numbers are such
 abbrev pub places_of : (ℕ → Bool) → ℕ → List PlaceAt → List PlaceAt

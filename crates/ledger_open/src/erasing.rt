@@ -6,7 +6,6 @@ ghost use Rattle.block_file.specs.FileView.{gate_of};
 ghost use Rattle.ledger_book.specs.Books.{Serves};
 ghost use Rattle.ledger_disk.specs.Disk.{KeepsLength};
 ghost use Rattle.ledger_model.specs.History.{History, journals, size};
-ghost use Rattle.ledger_model.specs.Targets.{is_occult};
 ghost use Rattle.twin_file.specs.Places.{HasTail};
 ghost use Rattle.twin_file.specs.Twin.{open_of, other_of};
 ghost use Rattle.twin_file.specs.Which.{in_a_of, file_of};
@@ -20,16 +19,6 @@ use journal_record::{Header, Kind};
 use ledger_book::Book;
 use ledger_disk::Disk;
 
-// Whether journals of this kind hide contents of others.
-fn hides(kind: Kind) -> bool
-    ensures { result ≡ is_occult kind }
-{
-    match kind {
-        Kind::Occult => true,
-        Kind::Genesis | Kind::Content | Kind::Member | Kind::Time | Kind::Purge => false,
-    }
-}
-
 // The header of the last journal.
 fn last_header(book: &Book) -> Option<&Header>
     ensures { (h : History) → Serves book.now h → option_copied result
@@ -39,27 +28,31 @@ fn last_header(book: &Book) -> Option<&Header>
 }
 
 // From which on, and up to which, of so many places those stand that are given up. An occult names one journal, so the others
-// aren't looked at.
+// aren't looked at. The records that one by clue hides may stand at any of them.
 fn span(book: &Book, count: usize) -> (usize, usize)
     ensures order { result.0 ≤ result.1 }
     ensures within { result.1 ≤ count }
     ensures others { (h : History) → Serves book.now h → (i : ℕ) → i < count
         → (i < result.0) ⊎ (result.1 ≤ i) → is_given_up h (book.now.floor + i) ≡ false }
 {
-    match last_header(book) {
-        Some(last) if hides(last.kind) => match last.a.checked_sub(book.floor()) {
+    let Some(last) = last_header(book) else {
+        return (0, 0);
+    };
+    match last.kind {
+        Kind::Occult => match last.a.checked_sub(book.floor()) {
             Some(index) if index < count as u64 => (index as usize, index as usize + 1),
             _ => (0, 0),
         },
-        _ => (0, 0),
+        Kind::ClueOccult => (0, count),
+        Kind::Genesis | Kind::Content | Kind::Member | Kind::Time | Kind::Purge => (0, 0),
     }
 }
 
-// Whether the content of journal `n` is given up: it is the last journal that hides it.
+// Whether the content of journal `n` is given up: no purge took it, and it is the last journal that hides it.
 fn gives_up(book: &Book, n: u64) -> bool
     ensures { (h : History) → Serves book.now h → book.now.floor ≤ n → result ≡ is_given_up h n }
 {
-    book.hider(n) == Some(book.size() - 1)
+    book.point() <= n && book.hider(n) == Some(book.size() - 1)
 }
 
 /// Gives up each content that the last journal hides and none before it does, in the open file, whose disk this is.

@@ -28,7 +28,7 @@ fn gathers(kind: Kind) -> bool
 {
     match kind {
         Kind::Content | Kind::Member => true,
-        Kind::Genesis | Kind::Time | Kind::Occult | Kind::Purge => false,
+        Kind::Genesis | Kind::Time | Kind::Occult | Kind::Purge | Kind::ClueOccult => false,
     }
 }
 

@@ -29,7 +29,7 @@ use Rattle.ledger_model.specs.Texts.{told_reply, answer_for, answer_to, proof_re
 use Rattle.ledger_model.specs.declared.answer.Answer.{Answer}
 use Rattle.ledger_model.specs.declared.answer.Answer.TheVariants.{Reply, Receipt}
 use Rattle.ledger_model.specs.declared.job.Job.{Job}
-use Rattle.ledger_model.specs.declared.job.Job.TheVariants.{Refused, Append, NewMember, Anchor, Occult, Purge, Get, Prove, Extend, Clue, Head}
+use Rattle.ledger_model.specs.declared.job.Job.TheVariants.{Refused, Append, NewMember, Anchor, Occult, OccultClue, Purge, Get, Prove, Extend, Clue, Head}
 use Rattle.ledger_model.specs.declared.outcome.Outcome.{Outcome}
 use Rattle.ledger_model.specs.declared.outcome.Outcome.TheVariants.{Reading}
 use Rattle.ledger_model.specs.declared.outcome.Query.TheVariants as query
@@ -69,6 +69,7 @@ accepted_unproved g step (Append member clue content content_digest request by w
 accepted_unproved g step (NewMember number key by) other = refl
 accepted_unproved g step Anchor other = anchor_unproved g step (stamp_of step)
 accepted_unproved g step (Occult target leaf given) other = refl
+accepted_unproved g step (OccultClue clue count given) other = refl
 accepted_unproved g step (Purge p told given) other = refl
 accepted_unproved g step (Get n) other = get_told (λ r. is_proof_reply r ≡ false) g n (λ why. refl) (λ header content who. refl) (λ header who. refl)
 accepted_unproved g step (Prove n) other = absurd (other n refl)
@@ -90,6 +91,7 @@ asks_for h step (Append member clue content content_digest request by who number
 asks_for h step (NewMember number key by) is = absurd (true≢false (sym is ∙ proves_only h step (NewMember number key by) (λ n e. let bad : ⊥ = cc in bad)))
 asks_for h step Anchor is = absurd (true≢false (sym is ∙ proves_only h step Anchor (λ n e. let bad : ⊥ = cc in bad)))
 asks_for h step (Occult target leaf given) is = absurd (true≢false (sym is ∙ proves_only h step (Occult target leaf given) (λ n e. let bad : ⊥ = cc in bad)))
+asks_for h step (OccultClue clue count given) is = absurd (true≢false (sym is ∙ proves_only h step (OccultClue clue count given) (λ n e. let bad : ⊥ = cc in bad)))
 asks_for h step (Purge p told given) is = absurd (true≢false (sym is ∙ proves_only h step (Purge p told given) (λ n e. let bad : ⊥ = cc in bad)))
 asks_for h step (Get m) is = absurd (true≢false (sym is ∙ proves_only h step (Get m) (λ n e. let bad : ⊥ = cc in bad)))
 asks_for h step (Extend which m) is = absurd (true≢false (sym is ∙ proves_only h step (Extend which m) (λ n e. let bad : ⊥ = cc in bad)))

@@ -1,6 +1,8 @@
-//! An occult and a purge are accepted with all approvals, and refused where one is missing or a fact differs.
+//! An occult, one by clue and a purge are accepted with all approvals, and refused where one is missing or a fact differs.
 
-use erase_rules::{OccultFacts, PurgeFacts, judge_occult, judge_purge};
+use erase_rules::{
+    ClueFacts, OccultFacts, PurgeFacts, judge_clue_occult, judge_occult, judge_purge,
+};
 use journal_record::Kind;
 use ledger_bytes::{Bytes, Digest, NoMemory, Refusal};
 use member_book::{Approval, MemberBook};
@@ -54,6 +56,30 @@ fn an_occult_is_judged(rt: HostRuntime) -> Result<(), Fail> {
     assert_eq!(rt;
         judge_occult(&hidden, &members, &LEAF, &both),
         Err(Refusal::AlreadyOcculted { by: 4 })
+    );
+    Ok(())
+}
+
+#[test]
+fn an_occult_by_clue_is_judged(rt: HostRuntime) -> Result<(), Fail> {
+    let alloc = rt.alloc();
+    let members = MemberBook::new(alloc, &OPERATOR, &REGULATOR)?;
+    let operator = approval(alloc, 0, OPERATOR)?;
+    let both = [operator, approval(alloc, 1, REGULATOR)?];
+    let facts = ClueFacts { count: 3, shown: 1 };
+    assert_eq!(rt; judge_clue_occult(&facts, &members, 3, &both), Ok(()));
+    assert_eq!(rt;
+        judge_clue_occult(&facts, &members, 3, &both[..1]),
+        Err(Refusal::MissingApproval { member: 1 })
+    );
+    let hidden = ClueFacts { shown: 0, ..facts };
+    assert_eq!(rt;
+        judge_clue_occult(&hidden, &members, 3, &[]),
+        Err(Refusal::NothingToHide)
+    );
+    assert_eq!(rt;
+        judge_clue_occult(&hidden, &members, 2, &[]),
+        Err(Refusal::ClueDiffers { count: 3 })
     );
     Ok(())
 }

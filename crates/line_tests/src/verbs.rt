@@ -2,6 +2,8 @@
 
 use ledger_bytes::{Bytes, Digest, NoMemory, Refusal};
 use script_lines::{Line, Spoken, read_line};
+use std::alloc::Global;
+use std::process::Abort;
 use std::test::Fail;
 
 /// What a line is.
@@ -141,6 +143,53 @@ fn keeps_who_approves_an_occult(rt: HostRuntime) -> Result<(), Fail> {
     assert_eq!(rt; operator.proof.as_slice(), [0x0a, 0xff].as_slice());
     assert_eq!(rt; regulator.member, 1);
     assert_eq!(rt; regulator.proof.as_slice(), b"".as_slice());
+    Ok(())
+}
+
+#[test]
+fn keeps_the_clue_of_an_occult(rt: HostRuntime) -> Result<(), Fail> {
+    let line = b"3 occultclue inv 4294967295 0:01,1:-";
+    occults_a_clue(&rt, rt.alloc(), line, b"inv")?;
+    occults_a_clue(&rt, rt.alloc(), b"3 occultclue - 4294967295 0:01,1:-", b"")
+}
+
+/// The line occults the greatest count of a clue's records, by the operator and the regulator.
+fn occults_a_clue(rt: &impl Abort, alloc: Global, line: &[u8], clue: &[u8]) -> Result<(), Fail> {
+    let Spoken { lane, what } = read_line(alloc, line)?;
+    assert_eq!(rt; lane, 3);
+    let Ok(Line::OccultClue { name, count, given }) = what else {
+        return Err("not an occult by clue".into());
+    };
+    assert_eq!(rt; count, u32::MAX);
+    assert_eq!(rt; name.as_slice(), clue);
+    let [operator, regulator] = given.as_slice() else {
+        return Err("not two approvals".into());
+    };
+    assert_eq!(rt; operator.member, 0);
+    assert_eq!(rt; operator.proof.as_slice(), [0x01].as_slice());
+    assert_eq!(rt; regulator.member, 1);
+    assert_eq!(rt; regulator.proof.as_slice(), b"".as_slice());
+    Ok(())
+}
+
+// A clue's count is from 1 to 2^32 - 1.
+#[test]
+fn reads_the_count_of_a_clue(rt: HostRuntime) -> Result<(), Fail> {
+    for (text, wanted) in [
+        (" 1 -", Form::Other),
+        (" 4294967295 -", Form::Other),
+        (" 4294967296 -", at(4)),
+        (" 0 -", at(4)),
+        (" 07 -", at(4)),
+        (" -", at(4)),
+        ("", at(4)),
+        (" 1", at(5)),
+        (" 1 - ", at(6)),
+    ] {
+        let mut line = b"0 occultclue inv".to_vec(rt.alloc())?;
+        line.extend_from_slice(text.as_bytes())?;
+        assert_eq!(rt; form_of(&rt, line.as_slice())?, wanted, "at{text}");
+    }
     Ok(())
 }
 

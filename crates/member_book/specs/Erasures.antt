@@ -1,8 +1,8 @@
 -- What an erasure is refused for, in its order: its target, and then the approvals.
-use Rattle.std.specs.Prelude.{ℕ, ◌&&◌, Bool, true, false, if◌then◌else◌, List, [], ◌∷◌, ◌++◌, nat_lt, nat_le, bytes_eq, Option, Some, None, option_map}
+use Rattle.std.specs.Prelude.{ℕ, ◌==◌, ◌&&◌, Bool, true, false, if◌then◌else◌, List, [], ◌∷◌, ◌++◌, nat_lt, nat_le, bytes_eq, Option, Some, None, option_map}
 use Rattle.ledger_bytes.specs.declared.digest.Digest.{Digest}
 use Rattle.ledger_bytes.specs.declared.refusal.Refusal.{Refusal}
-use Rattle.ledger_bytes.specs.declared.refusal.Refusal.TheVariants.{NoJournal, Purged, NotData, NotTime, AlreadyOcculted, LeafDiffers, RootDiffers}
+use Rattle.ledger_bytes.specs.declared.refusal.Refusal.TheVariants.{NoJournal, Purged, NotData, NotTime, AlreadyOcculted, LeafDiffers, RootDiffers, ClueDiffers, NothingToHide}
 use Rattle.journal_record.specs.Header.{code_of}
 use Rattle.journal_record.specs.declared.approval.Approval.{Approval}
 use Rattle.journal_record.specs.declared.header.Kind.{Kind}
@@ -61,6 +61,24 @@ target_row size point kind hider kept target leaf =
 abbrev pub occult_row : ℕ → ℕ → Kind → Option ℕ → Digest → List (List ℕ) → ℕ → Digest → List Approval → List (Option Refusal)
 occult_row size point kind hider kept known target leaf given =
     target_row size point kind hider kept target leaf ++ approvals_refusal known given (0 ∷ 1 ∷ []) ∷ []
+
+-- a clue has another number of records than the one that was given
+abbrev pub clue_differs : ℕ → ℕ → Option Refusal
+clue_differs count given = if count == given then None else Some (ClueDiffers count)
+
+-- none of a clue's records is kept and shown
+abbrev pub nothing_shown : ℕ → Option Refusal
+nothing_shown shown = if shown == 0 then Some NothingToHide else None
+
+-- what an occult by clue is refused for before its approvals are looked at
+abbrev pub clue_row : ℕ → ℕ → ℕ → List (Option Refusal)
+clue_row count shown asked = clue_differs count asked ∷ nothing_shown shown ∷ []
+
+-- what an occult of so many records of a clue is refused for, where the clue has this number of records, of which so many are kept
+-- and shown, and these are the keys of the members: it needs the approvals of the operator and of the regulator
+abbrev pub clue_occult_row : ℕ → ℕ → List (List ℕ) → ℕ → List Approval → List (Option Refusal)
+clue_occult_row count shown known asked given =
+    clue_row count shown asked ++ approvals_refusal known given (0 ∷ 1 ∷ []) ∷ []
 
 -- what a purge to this journal is refused for before its approvals are looked at
 abbrev pub point_row : ℕ → ℕ → Kind → Digest → ℕ → Digest → List (Option Refusal)

@@ -11,7 +11,7 @@ use Rattle.ledger_bytes.specs.Fields.{Unread, left_from, ◌>>=◌, bytes_at, nu
 use Rattle.ledger_bytes.proofs.Fields.{bind_ok, check_ok, ok_is, Took-then, wide64, number_back, byte_back, digest_back, byte_takes, bytes_takes, IsTextOf, text_none, text_then, bytes_text, digest_text, number_text, byte_text}
 use Rattle.journal_record.specs.declared.header.Header.{Header}
 use Rattle.journal_record.specs.declared.header.Kind.{Kind}
-use Rattle.journal_record.specs.declared.header.Kind.TheVariants.{Genesis, Content, Member, Time, Occult, Purge}
+use Rattle.journal_record.specs.declared.header.Kind.TheVariants.{Genesis, Content, Member, Time, Occult, Purge, ClueOccult}
 use Rattle.journal_record.specs.Header as headers
 use Rattle.journal_record.specs.Reading.{header_at}
 use Rattle.journal_record.proofs.ReadingSteps.{plain_takes, field_takes, field_text, answered, ended}
@@ -115,6 +115,7 @@ time_kind Member e = absurd cc
 time_kind Time e = refl
 time_kind Occult e = absurd cc
 time_kind Purge e = absurd cc
+time_kind ClueOccult e = absurd cc
 
 abbrev from_kind : ℕ → Header × Unread → Result (Header × Unread) Bad
 from_kind at header = check (is_time header.0.kind) at >>= λ _. Ok header

@@ -10,7 +10,7 @@ use Rattle.journal_record.specs.declared.header.Kind.TheVariants as kind
 use Rattle.journal_record.specs.declared.rules.TheConstants.{NOTARY_LIMIT}
 use Rattle.journal_record.specs.declared.stamp.Stamp.{Stamp}
 use Rattle.ledger_model.specs.Anchors.{time_header, time_journal, stamp_of}
-use Rattle.ledger_model.specs.Appends.{append_header, append_journal, member_header, member_journal, occult_header, occult_journal, purge_header, purge_journal}
+use Rattle.ledger_model.specs.Appends.{append_header, append_journal, member_header, member_journal, occult_header, occult_journal, clue_occult_header, clue_occult_journal, purge_header, purge_journal}
 use Rattle.ledger_model.specs.History.{History, journals, size, close}
 use Rattle.ledger_model.specs.Judgements.{own_refusal}
 use Rattle.ledger_model.specs.Lawful.{IsLawful}
@@ -22,7 +22,7 @@ use Rattle.ledger_model.specs.Outcomes.{with_waiting, after_judgement, with_job}
 use Rattle.ledger_model.specs.Rules.{closes_before, closes_after, judged_at, settled_history, after_job}
 use Rattle.ledger_model.specs.Step.{Step}
 use Rattle.ledger_model.specs.declared.job.Job.{Job}
-use Rattle.ledger_model.specs.declared.job.Job.TheVariants.{Refused, Append, NewMember, Anchor, Occult, Purge, Get, Prove, Extend, Clue, Head}
+use Rattle.ledger_model.specs.declared.job.Job.TheVariants.{Refused, Append, NewMember, Anchor, Occult, OccultClue, Purge, Get, Prove, Extend, Clue, Head}
 use Rattle.ledger_model.proofs.AcceptedLaws.{stamp_few}
 use Rattle.ledger_model.proofs.FitLaws.{size_few}
 use Rattle.ledger_model.proofs.KeepLaws.{journals_close, journals_wider}
@@ -87,7 +87,7 @@ module _ (h : History) (wide : HasWideTimes h) where
       let fits = stamped_fits making h step s r is changes in more (time_journal (size h) s) (λ time. time_wide s few (stamp_few step s is) fits.0 fits.1)
 
   job_wide : (making : Option Making) (step : Step) (job : Job) → size h < 2 ^ 64 → ChangesBy h making step job → HasWideTimes (with_job real_limits (stamp_of step) h job)
-  unfolding with_job append_header member_header occult_header purge_header
+  unfolding with_job append_header member_header occult_header clue_occult_header purge_header
   job_wide making step (Refused refusal) few changes = wide
   job_wide making step (Append member clue content content_digest request by who number) few changes =
       recorded (own_refusal real_limits h (Append member clue content content_digest request by who number)) (repeated h member number request) (append_journal h member clue content content_digest request by who number)
@@ -96,6 +96,8 @@ module _ (h : History) (wide : HasWideTimes h) where
   job_wide making step Anchor few changes = anchor_wide making step few changes (own_refusal real_limits h Anchor) (stamp_of step) refl refl
   job_wide making step (Occult target leaf given) few changes =
       placed (own_refusal real_limits h (Occult target leaf given)) (occult_journal (size h) target leaf given) (λ none time. absurd (let no : ⊥ = cc time in no))
+  job_wide making step (OccultClue clue count given) few changes =
+      placed (own_refusal real_limits h (OccultClue clue count given)) (clue_occult_journal (size h) clue count given) (λ none time. absurd (let no : ⊥ = cc time in no))
   job_wide making step (Purge p told given) few changes =
       placed (own_refusal real_limits h (Purge p told given)) (purge_journal h p given) (λ none time. absurd (let no : ⊥ = cc time in no))
   job_wide making step (Get n) few changes = unplaced (own_refusal real_limits h (Get n))

@@ -21,7 +21,7 @@ use Rattle.script_lines.specs.Replies.{time_mark}
 use Rattle.script_lines.specs.declared.reply.Reply.TheVariants as reply
 use Rattle.script_lines.specs.declared.said.Which.TheVariants.{Ledger, Notary}
 use Rattle.ledger_model.specs.Anchors.{stamp_of}
-use Rattle.ledger_model.specs.Appends.{append_journal, member_journal, occult_journal, purge_journal}
+use Rattle.ledger_model.specs.Appends.{append_journal, member_journal, occult_journal, clue_occult_journal, purge_journal}
 use Rattle.ledger_model.specs.Getting.{reply_unless}
 use Rattle.ledger_model.specs.History as model
 use Rattle.ledger_model.specs.History.{History, journals, id, close}
@@ -40,7 +40,7 @@ use Rattle.ledger_model.specs.Step.{Step}
 use Rattle.ledger_model.specs.Took.{notary_after, Took, TookAll}
 use Rattle.ledger_model.specs.Texts.{told_mark, proof_reply, extension_reply, told_reply, answer_for, answer_to}
 use Rattle.ledger_model.specs.declared.job.Job.{Job}
-use Rattle.ledger_model.specs.declared.job.Job.TheVariants.{Refused, Append, NewMember, Anchor, Occult, Purge, Get, Prove, Extend, Clue, Head}
+use Rattle.ledger_model.specs.declared.job.Job.TheVariants.{Refused, Append, NewMember, Anchor, Occult, OccultClue, Purge, Get, Prove, Extend, Clue, Head}
 use Rattle.ledger_model.specs.declared.outcome.Outcome.TheVariants.{Reading}
 use Rattle.ledger_model.specs.declared.outcome.Query.TheVariants as query
 use Rattle.ledger_model.proofs.FitLaws.{size_few}
@@ -171,6 +171,8 @@ good_answer making h step (NewMember number key by) lawful wide pegged changes =
 good_answer making h step Anchor lawful wide pegged changes = anchor_good (close h) step.after step (own_refusal real_limits (close h) Anchor) (stamp_of step)
 good_answer making h step (Occult target leaf given) lawful wide pegged changes =
     placed_good (close h) step.after step (own_refusal real_limits (close h) (Occult target leaf given)) (model.size (close h)) (occult_journal (model.size (close h)) target leaf given)
+good_answer making h step (OccultClue clue count given) lawful wide pegged changes =
+    placed_good (close h) step.after step (own_refusal real_limits (close h) (OccultClue clue count given)) (model.size (close h)) (clue_occult_journal (model.size (close h)) clue count given)
 good_answer making h step (Purge p told given) lawful wide pegged changes =
     placed_good (close h) step.after step (own_refusal real_limits (close h) (Purge p told given)) (model.size (close h)) (purge_journal (close h) p given)
 good_answer making h step (Get n) lawful wide pegged changes = get_told (IsGood (close h) step.after) (close h) n (λ why. tt) (λ header content who. tt) (λ header who. tt)

@@ -5,11 +5,11 @@ use Rattle.std.proofs.lemmas.Bool.{and_from, and_parts, le-leb, leb-true}
 use Rattle.ledger_bytes.specs.declared.limits.TheConstants.{CONTENT_LIMIT, NAME_LIMIT, PROOF_LIMIT}
 use Rattle.ledger_bytes.specs.declared.refusal.Refusal.{Refusal}
 use Rattle.script_lines.specs.Fields.{UnreadFields, fields_of, read_or_bad, field_from, field_at, optional_from, optional_at, end_from, end_at}
-use Rattle.script_lines.specs.Grammar.{◌>>=◌, append_at, member_at, anchor_at, occult_at, purge_at, get_at, prove_at, extend_at, clue_at, head_at, verb_at, asked_by, lane_of, spoken_by, spoken_at, spoken_line}
+use Rattle.script_lines.specs.Grammar.{◌>>=◌, append_at, member_at, anchor_at, occult_at, clue_occult_at, purge_at, get_at, prove_at, extend_at, clue_at, head_at, verb_at, asked_by, lane_of, spoken_by, spoken_at, spoken_line}
 use Rattle.script_lines.specs.Limits.{fits_line, fits_approvals, is_of_form, fits_what}
-use Rattle.script_lines.specs.Spellings.{text_of, number_of, request_number_of, bytes_of, digest_of, clue_of, name_of, which_of, approvals_of, is_dash}
+use Rattle.script_lines.specs.Spellings.{text_of, number_of, request_number_of, count_of, bytes_of, digest_of, clue_of, name_of, which_of, approvals_of, is_dash}
 use Rattle.script_lines.specs.declared.line.Line.{Line}
-use Rattle.script_lines.specs.declared.line.Line.TheVariants.{Append, NewMember, Anchor, Occult, Purge, Get, Prove, Extend, Clue, Head}
+use Rattle.script_lines.specs.declared.line.Line.TheVariants.{Append, NewMember, Anchor, Occult, OccultClue, Purge, Get, Prove, Extend, Clue, Head}
 use Rattle.script_lines.proofs.Approving.{bytes_short, approvals_short, approvals_fit}
 
 -- what a field reads as keeps to a rule, or the refusal is one of a line's form
@@ -96,6 +96,14 @@ occult_fits fields =
     then_fits (λ given. fits_approvals given ≡ true) _ _ (field_gives (λ given. fits_approvals given ≡ true) approvals_of leaf.1 (λ text given is. approvals_fit given (approvals_short text given is))) (λ given g.
     end_fits given.1 (Occult target.0 leaf.0 given.0) g)))
 
+clue_occult_fits : (fields : UnreadFields) → fits_what (clue_occult_at fields) ≡ true
+unfolding clue_occult_at
+clue_occult_fits fields =
+    then_fits (λ clue. length clue ≤ NAME_LIMIT) _ _ (field_gives (λ clue. length clue ≤ NAME_LIMIT) clue_of fields clue_short) (λ name s.
+    then_fits Any _ _ (field_gives Any count_of name.1 (λ text x is. tt)) (λ count c.
+    then_fits (λ given. fits_approvals given ≡ true) _ _ (field_gives (λ given. fits_approvals given ≡ true) approvals_of count.1 (λ text given is. approvals_fit given (approvals_short text given is))) (λ given g.
+    end_fits given.1 (OccultClue name.0 count.0 given.0) (and_from _ _ (le-leb (length name.0) NAME_LIMIT s) g))))
+
 purge_fits : (fields : UnreadFields) → fits_what (purge_at fields) ≡ true
 unfolding purge_at
 purge_fits fields =
@@ -144,12 +152,13 @@ verb_fits verb fields =
     (either_fits (bytes_eq verb (codes "member")) _ _ (member_fits fields)
     (either_fits (bytes_eq verb (codes "anchor")) _ _ (anchor_fits fields)
     (either_fits (bytes_eq verb (codes "occult")) _ _ (occult_fits fields)
+    (either_fits (bytes_eq verb (codes "occultclue")) _ _ (clue_occult_fits fields)
     (either_fits (bytes_eq verb (codes "purge")) _ _ (purge_fits fields)
     (either_fits (bytes_eq verb (codes "get")) _ _ (get_fits fields)
     (either_fits (bytes_eq verb (codes "prove")) _ _ (prove_fits fields)
     (either_fits (bytes_eq verb (codes "extend")) _ _ (extend_fits fields)
     (either_fits (bytes_eq verb (codes "clue")) _ _ (clue_fits fields)
-    (either_fits (bytes_eq verb (codes "head")) _ _ (head_fits fields) refl)))))))))
+    (either_fits (bytes_eq verb (codes "head")) _ _ (head_fits fields) refl))))))))))
 
 asked_fits : (verb : Result (List ℕ × UnreadFields) Refusal) → fits_what (asked_by verb) ≡ true
 asked_fits (Ok verb) = verb_fits verb.0 verb.1

@@ -3,7 +3,7 @@ use Rattle.std.proofs.Common.{◌≡◌, ℕ, ◌-◌, ◌^◌, ◌<◌, ◌==�
 use Rattle.std.specs.List.{list_all}
 use Rattle.std.specs.Result.{result_ok}
 use Rattle.std.specs.Option.{option_map}
-use Rattle.std.proofs.lemmas.Bool.{and_from, cond-true, cond-false, le-leb, lt-ltb}
+use Rattle.std.proofs.lemmas.Bool.{and_from, cond-true, cond-false, eqb-true, false_from_ne_true, le-leb, lt-ltb}
 use Rattle.std.proofs.lemmas.List.Elements.{All-weaker}
 use Rattle.std.proofs.lemmas.List.Splits.{slice_split_at, slice_split_none}
 use Rattle.std.proofs.lemmas.List.Sums.{AllPass-from_list_all}
@@ -14,13 +14,13 @@ use Rattle.ledger_bytes.specs.Digests.{digest}
 use Rattle.ledger_bytes.specs.declared.digest.Digest.{Digest}
 use Rattle.ledger_bytes.specs.declared.refusal.Refusal.{Refusal}
 use Rattle.script_lines.specs.Fields.{field_at, optional_at, end_at}
-use Rattle.script_lines.specs.Grammar.{◌>>=◌, append_at, member_at, anchor_at, occult_at, purge_at, get_at, prove_at, extend_at, clue_at, head_at, spoken_line, spoken_at}
+use Rattle.script_lines.specs.Grammar.{◌>>=◌, append_at, member_at, anchor_at, occult_at, clue_occult_at, purge_at, get_at, prove_at, extend_at, clue_at, head_at, spoken_line, spoken_at}
 use Rattle.script_lines.specs.Parts.{parts}
 use Rattle.script_lines.specs.Sayings.{approvals_text, clue_text, number_words, line_words, line_text, IsOneField, IsName, IsClue, IsSayable}
-use Rattle.script_lines.specs.Spellings.{text_of, request_number_of, digest_of, clue_of, name_of, is_dash}
+use Rattle.script_lines.specs.Spellings.{text_of, request_number_of, count_of, digest_of, clue_of, name_of, is_dash}
 use Rattle.script_lines.specs.Words.{hex_of, hex_or_dash, spaced_words, which_text}
 use Rattle.script_lines.specs.declared.line.Line.{Line}
-use Rattle.script_lines.specs.declared.line.Line.TheVariants.{Append, NewMember, Anchor, Occult, Purge, Get, Prove, Extend, Clue, Head}
+use Rattle.script_lines.specs.declared.line.Line.TheVariants.{Append, NewMember, Anchor, Occult, OccultClue, Purge, Get, Prove, Extend, Clue, Head}
 use Rattle.script_lines.specs.declared.said.Which.{Which}
 use Rattle.script_lines.specs.declared.said.Which.TheVariants.{Ledger, Notary}
 use Rattle.script_lines.specs.declared.said.SaidApproval.{SaidApproval}
@@ -106,6 +106,18 @@ occult_at-words target leaf given is =
     let g = approvals_of-text given is.3 is.4 in
     rw (n, l, g) refl
 
+count_of-decimal : (count : ℕ) → 0 < count → count < 2 ^ 32 → count_of (decimal count) ≡ Some count
+count_of-decimal count some small = rw (number_of-word count small, false_from_ne_true (count == 0) (λ none. let zero_is : count ≡ 0 = eqb-true count 0 none in omega (arith, zero_is, some))) refl
+
+clue_occult_at-words : (name : List ℕ) (count : ℕ) (given : List SaidApproval) → IsSayable (OccultClue name count given)
+    → clue_occult_at (record { column = 3; fields = clue_text name ∷ decimal count ∷ approvals_text given ∷ [] }) ≡ Ok (OccultClue name count given)
+unfolding clue_occult_at
+clue_occult_at-words name count given is =
+    let n = clue_of-text name is.0 in
+    let c = count_of-decimal count is.1 is.2 in
+    let g = approvals_of-text given is.3 is.4 in
+    rw (n, c, g) refl
+
 purge_at-words : (point : ℕ) (root : Digest) (given : List SaidApproval) → IsSayable (Purge point root given)
     → purge_at (record { column = 3; fields = decimal point ∷ hex_of root ∷ approvals_text given ∷ [] }) ≡ Ok (Purge point root given)
 unfolding purge_at
@@ -162,6 +174,8 @@ words-whole (NewMember number key proof) is =
 words-whole Anchor is = (literal-whole (codes "anchor") refl, tt)
 words-whole (Occult target leaf given) is =
     (literal-whole (codes "occult") refl, (decimal-whole 32 refl target is.0, (digits-whole 32 refl leaf.0 is.2, (approvals-whole 32 refl refl refl refl refl given is.4, tt))))
+words-whole (OccultClue name count given) is =
+    (literal-whole (codes "occultclue") refl, (clue-whole name is.0, (decimal-whole 32 refl count (omega (arith, is.2)), (approvals-whole 32 refl refl refl refl refl given is.4, tt))))
 words-whole (Purge point root given) is =
     (literal-whole (codes "purge") refl, (decimal-whole 32 refl point is.0, (digits-whole 32 refl root.0 is.2, (approvals-whole 32 refl refl refl refl refl given is.4, tt))))
 words-whole (Get n) is = (literal-whole (codes "get") refl, (decimal-whole 32 refl n is, tt))
@@ -179,6 +193,7 @@ said_by-words (Append member clue content proof number) is = ap (λ (read : Resu
 said_by-words (NewMember number key proof) is = ap (λ (read : Result Line Refusal). (0, read)) (member_at-words number key proof is)
 said_by-words Anchor is = ap (λ (read : Result Line Refusal). (0, read)) anchor_at-words
 said_by-words (Occult target leaf given) is = ap (λ (read : Result Line Refusal). (0, read)) (occult_at-words target leaf given is)
+said_by-words (OccultClue name count given) is = ap (λ (read : Result Line Refusal). (0, read)) (clue_occult_at-words name count given is)
 said_by-words (Purge point root given) is = ap (λ (read : Result Line Refusal). (0, read)) (purge_at-words point root given is)
 said_by-words (Get n) is = ap (λ (read : Result Line Refusal). (0, read)) (get_at-words n is)
 said_by-words (Prove n) is = ap (λ (read : Result Line Refusal). (0, read)) (prove_at-words n is)

@@ -6,11 +6,11 @@ use Rattle.std.proofs.lemmas.List.Elements.{All-weaker}
 use Rattle.ledger_bytes.specs.declared.limits.TheConstants.{CONTENT_LIMIT, PROOF_LIMIT}
 use Rattle.ledger_bytes.specs.declared.refusal.Refusal.{Refusal}
 use Rattle.script_lines.specs.Fields.{UnreadFields, fields_of, next_column, read_or_bad, field_from, field_at, optional_from, optional_at, end_from, end_at}
-use Rattle.script_lines.specs.Grammar.{◌>>=◌, append_at, member_at, anchor_at, occult_at, purge_at, get_at, prove_at, extend_at, clue_at, head_at, verb_at, asked_by, lane_of, spoken_by, spoken_at, spoken_line}
+use Rattle.script_lines.specs.Grammar.{◌>>=◌, append_at, member_at, anchor_at, occult_at, clue_occult_at, purge_at, get_at, prove_at, extend_at, clue_at, head_at, verb_at, asked_by, lane_of, spoken_by, spoken_at, spoken_line}
 use Rattle.script_lines.specs.Receipts.{FitsWord, RefusalFits}
-use Rattle.script_lines.specs.Spellings.{text_of, number_of, request_number_of, bytes_of, digest_of, clue_of, which_of, approvals_of}
+use Rattle.script_lines.specs.Spellings.{text_of, number_of, request_number_of, count_of, bytes_of, digest_of, clue_of, which_of, approvals_of}
 use Rattle.script_lines.specs.declared.line.Line.{Line}
-use Rattle.script_lines.specs.declared.line.Line.TheVariants.{Append, NewMember, Anchor, Occult, Purge, Get, Prove, Extend, Clue, Head}
+use Rattle.script_lines.specs.declared.line.Line.TheVariants.{Append, NewMember, Anchor, Occult, OccultClue, Purge, Get, Prove, Extend, Clue, Head}
 use Rattle.script_lines.specs.declared.said.SaidApproval.{SaidApproval}
 use Rattle.script_lines.proofs.Approving.{IsShortApproval, number_low, request_number_low, approvals_short}
 
@@ -20,6 +20,7 @@ LineFits (Append member clue content proof number) = FitsWord member × FitsWord
 LineFits (NewMember number key proof) = ⊤
 LineFits Anchor = ⊤
 LineFits (Occult target leaf given) = All (λ by. FitsWord by.member) given
+LineFits (OccultClue name count given) = All (λ by. FitsWord by.member) given
 LineFits (Purge point root given) = All (λ by. FitsWord by.member) given
 LineFits (Get n) = ⊤
 LineFits (Prove n) = ⊤
@@ -110,6 +111,14 @@ occult_fits fields here =
     then_fits (All (λ by. FitsWord by.member)) _ _ (field_gives (All (λ by. FitsWord by.member)) approvals_of leaf.1 b members_fit) (λ given g c.
     end_fits given.1 (Occult target.0 leaf.0 given.0) c g)))
 
+clue_occult_fits : (fields : UnreadFields) → FitsWord fields.column → WhatFits (clue_occult_at fields)
+unfolding clue_occult_at
+clue_occult_fits fields here =
+    then_fits Any _ _ (field_gives Any clue_of fields here (λ text x is. tt)) (λ name n a.
+    then_fits Any _ _ (field_gives Any count_of name.1 a (λ text x is. tt)) (λ count k b.
+    then_fits (All (λ by. FitsWord by.member)) _ _ (field_gives (All (λ by. FitsWord by.member)) approvals_of count.1 b members_fit) (λ given g c.
+    end_fits given.1 (OccultClue name.0 count.0 given.0) c g)))
+
 purge_fits : (fields : UnreadFields) → FitsWord fields.column → WhatFits (purge_at fields)
 unfolding purge_at
 purge_fits fields here =
@@ -157,12 +166,13 @@ verb_fits verb fields here =
     (either_fits (bytes_eq verb (codes "member")) _ _ (member_fits fields here)
     (either_fits (bytes_eq verb (codes "anchor")) _ _ (anchor_fits fields here)
     (either_fits (bytes_eq verb (codes "occult")) _ _ (occult_fits fields here)
+    (either_fits (bytes_eq verb (codes "occultclue")) _ _ (clue_occult_fits fields here)
     (either_fits (bytes_eq verb (codes "purge")) _ _ (purge_fits fields here)
     (either_fits (bytes_eq verb (codes "get")) _ _ (get_fits fields here)
     (either_fits (bytes_eq verb (codes "prove")) _ _ (prove_fits fields here)
     (either_fits (bytes_eq verb (codes "extend")) _ _ (extend_fits fields here)
     (either_fits (bytes_eq verb (codes "clue")) _ _ (clue_fits fields here)
-    (either_fits (bytes_eq verb (codes "head")) _ _ (head_fits fields here) tt)))))))))
+    (either_fits (bytes_eq verb (codes "head")) _ _ (head_fits fields here) tt))))))))))
 
 asked_fits : (verb : Result (List ℕ × UnreadFields) Refusal) → Gives Any verb → WhatFits (asked_by verb)
 asked_fits (Ok verb) g = verb_fits verb.0 verb.1 g.1

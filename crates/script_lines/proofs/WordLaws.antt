@@ -117,6 +117,8 @@ refusal_are (refusals.Full kept size) = (decimal_word 29, (decimal_word kept, (d
 refusal_are (refusals.BadSize size) = coded 33 size
 refusal_are refusals.CluesFull = number 42
 refusal_are (refusals.NumberTaken jsn) = coded 48 jsn
+refusal_are (refusals.ClueDiffers count) = coded 49 count
+refusal_are refusals.NothingToHide = number 50
 
 stamp_are : (s : Option (ℕ × ℕ)) → AreWords (stamp_words s)
 stamp_are None = tt

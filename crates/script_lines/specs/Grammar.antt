@@ -5,9 +5,9 @@ use Rattle.ledger_bytes.specs.declared.limits.TheConstants.{CONTENT_LIMIT, PROOF
 use Rattle.ledger_bytes.specs.declared.refusal.Refusal.{Refusal}
 use Rattle.ledger_bytes.specs.declared.refusal.Refusal.TheVariants.{BadVerb, BadLane}
 use Rattle.script_lines.specs.Fields.{UnreadFields, fields_of, field_at, optional_at, end_at}
-use Rattle.script_lines.specs.Spellings.{text_of, number_of, request_number_of, bytes_of, digest_of, clue_of, which_of, approvals_of}
+use Rattle.script_lines.specs.Spellings.{text_of, number_of, request_number_of, count_of, bytes_of, digest_of, clue_of, which_of, approvals_of}
 use Rattle.script_lines.specs.declared.line.Line.{Line}
-use Rattle.script_lines.specs.declared.line.Line.TheVariants.{Append, NewMember, Anchor, Occult, Purge, Get, Prove, Extend, Clue, Head}
+use Rattle.script_lines.specs.declared.line.Line.TheVariants.{Append, NewMember, Anchor, Occult, OccultClue, Purge, Get, Prove, Extend, Clue, Head}
 
 -- the second step, with what the first gave
 infixl 10 ◌>>=◌
@@ -50,6 +50,15 @@ occult_at fields = do
   given ← field_at approvals_of leaf.1
   end ← end_at given.1
   Ok (Occult target.0 leaf.0 given.0)
+
+-- what the fields behind `occultclue` say: `occultclue NAME COUNT APPROVALS`, where NAME is a clue's name, or `-` for no clue
+unfoldable pub clue_occult_at : UnreadFields → Result Line Refusal
+clue_occult_at fields = do
+  name ← field_at clue_of fields
+  count ← field_at count_of name.1
+  given ← field_at approvals_of count.1
+  end ← end_at given.1
+  Ok (OccultClue name.0 count.0 given.0)
 
 -- what the fields behind `purge` say: `purge POINT ROOT APPROVALS`
 unfoldable pub purge_at : UnreadFields → Result Line Refusal
@@ -102,6 +111,7 @@ verb_at verb fields =
     else if bytes_eq verb (codes "member") then member_at fields
     else if bytes_eq verb (codes "anchor") then anchor_at fields
     else if bytes_eq verb (codes "occult") then occult_at fields
+    else if bytes_eq verb (codes "occultclue") then clue_occult_at fields
     else if bytes_eq verb (codes "purge") then purge_at fields
     else if bytes_eq verb (codes "get") then get_at fields
     else if bytes_eq verb (codes "prove") then prove_at fields

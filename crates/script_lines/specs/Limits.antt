@@ -5,7 +5,7 @@ use Rattle.ledger_bytes.specs.declared.limits.TheConstants.{APPROVAL_LIMIT, CONT
 use Rattle.ledger_bytes.specs.declared.refusal.Refusal.{Refusal}
 use Rattle.ledger_bytes.specs.declared.refusal.Refusal.TheVariants.{BadVerb, BadField, BadLane}
 use Rattle.script_lines.specs.declared.line.Line.{Line}
-use Rattle.script_lines.specs.declared.line.Line.TheVariants.{Append, NewMember, Anchor, Occult, Purge, Get, Prove, Extend, Clue, Head}
+use Rattle.script_lines.specs.declared.line.Line.TheVariants.{Append, NewMember, Anchor, Occult, OccultClue, Purge, Get, Prove, Extend, Clue, Head}
 use Rattle.script_lines.specs.declared.said.SaidApproval.{SaidApproval}
 
 -- there are no more approvals than a line may give, and no proof is longer than it may give
@@ -19,6 +19,7 @@ fits_line (Append member clue content proof number) =
 fits_line (NewMember number key proof) = nat_le (length proof) PROOF_LIMIT
 fits_line Anchor = true
 fits_line (Occult target leaf given) = fits_approvals given
+fits_line (OccultClue name count given) = nat_le (length name) NAME_LIMIT && fits_approvals given
 fits_line (Purge point root given) = fits_approvals given
 fits_line (Get n) = true
 fits_line (Prove n) = true

@@ -121,6 +121,8 @@ RefusalFits (refusals.Full kept size) = FitsWord kept × FitsWord size
 RefusalFits (refusals.BadSize size) = FitsWord size
 RefusalFits refusals.CluesFull = ⊤
 RefusalFits (refusals.NumberTaken jsn) = FitsWord jsn
+RefusalFits (refusals.ClueDiffers count) = FitsWord count
+RefusalFits refusals.NothingToHide = ⊤
 
 -- The numbers of a reply are below 2^64, and the leaf digest of a receipt is bytes. Nothing is asked of a proof: it is no
 -- receipt, whatever its numbers.

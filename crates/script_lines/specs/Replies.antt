@@ -2,7 +2,7 @@
 use Rattle.std.specs.Prelude.{ℕ, List, [], ◌∷◌, ◌++◌, codes, decimal, Option, Some, None, option_map}
 use Rattle.ledger_bytes.specs.Codes.{refusal_code}
 use Rattle.ledger_bytes.specs.declared.refusal.Refusal.{Refusal}
-use Rattle.ledger_bytes.specs.declared.refusal.Refusal.TheVariants.{BadVerb, BadField, BadLane, Damaged, UnknownMember, WrongKey, MissingApproval, ApprovalOrder, MemberNumber, MembersFull, NoJournal, Purged, NotData, NotTime, AlreadyOcculted, LeafDiffers, RootDiffers, NotaryFault, NotaryFull, Full, BadSize, CluesFull, NumberTaken}
+use Rattle.ledger_bytes.specs.declared.refusal.Refusal.TheVariants.{BadVerb, BadField, BadLane, Damaged, UnknownMember, WrongKey, MissingApproval, ApprovalOrder, MemberNumber, MembersFull, NoJournal, Purged, NotData, NotTime, AlreadyOcculted, LeafDiffers, RootDiffers, NotaryFault, NotaryFull, Full, BadSize, CluesFull, NumberTaken, ClueDiffers, NothingToHide}
 use Rattle.ledger_bytes.specs.declared.mark.TimeMark.{TimeMark}
 use Rattle.script_lines.specs.declared.reply.Reply.{Reply}
 use Rattle.script_lines.specs.declared.reply.Reply.TheVariants.{Placed, Whole, Occulted, Proof, Extension, Clue, Head, Refused}
@@ -33,6 +33,8 @@ refusal_fields (Full kept size) = decimal kept ∷ decimal size ∷ []
 refusal_fields (BadSize size) = decimal size ∷ []
 refusal_fields CluesFull = []
 refusal_fields (NumberTaken jsn) = decimal jsn ∷ []
+refusal_fields (ClueDiffers count) = decimal count ∷ []
+refusal_fields NothingToHide = []
 
 -- the words that tell a refusal: its code, and its fields
 abbrev pub refusal_words : Refusal → List (List ℕ)

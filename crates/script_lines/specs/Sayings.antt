@@ -4,7 +4,7 @@ use Rattle.hex.specs.Hex.{IsBytes}
 use Rattle.ledger_bytes.specs.declared.limits.TheConstants.{APPROVAL_LIMIT, CONTENT_LIMIT, NAME_LIMIT, PROOF_LIMIT}
 use Rattle.script_lines.specs.Words.{hex_of, hex_or_dash, spaced_words, which_text}
 use Rattle.script_lines.specs.declared.line.Line.{Line}
-use Rattle.script_lines.specs.declared.line.Line.TheVariants.{Append, NewMember, Anchor, Occult, Purge, Get, Prove, Extend, Clue, Head}
+use Rattle.script_lines.specs.declared.line.Line.TheVariants.{Append, NewMember, Anchor, Occult, OccultClue, Purge, Get, Prove, Extend, Clue, Head}
 use Rattle.script_lines.specs.declared.said.SaidApproval.{SaidApproval}
 
 -- a clue's name, or `-` for no clue
@@ -37,6 +37,7 @@ line_words (Append member clue content proof number) =
 line_words (NewMember number key proof) = codes "member" ∷ decimal number ∷ hex_of key ∷ hex_or_dash proof ∷ []
 line_words Anchor = codes "anchor" ∷ []
 line_words (Occult target leaf given) = codes "occult" ∷ decimal target ∷ hex_of leaf ∷ approvals_text given ∷ []
+line_words (OccultClue name count given) = codes "occultclue" ∷ clue_text name ∷ decimal count ∷ approvals_text given ∷ []
 line_words (Purge point root given) = codes "purge" ∷ decimal point ∷ hex_of root ∷ approvals_text given ∷ []
 line_words (Get n) = codes "get" ∷ decimal n ∷ []
 line_words (Prove n) = codes "prove" ∷ decimal n ∷ []
@@ -80,6 +81,8 @@ IsSayable (NewMember number key proof) = (number < 2 ^ 32) × (length key.0 ≡ 
 IsSayable Anchor = ⊤
 IsSayable (Occult target leaf given) =
     (target < 2 ^ 64) × (length leaf.0 ≡ 32) × IsBytes leaf.0 × (length given ≤ APPROVAL_LIMIT) × All IsSayableApproval given
+IsSayable (OccultClue name count given) =
+    IsClue name × (0 < count) × (count < 2 ^ 32) × (length given ≤ APPROVAL_LIMIT) × All IsSayableApproval given
 IsSayable (Purge point root given) =
     (point < 2 ^ 64) × (length root.0 ≡ 32) × IsBytes root.0 × (length given ≤ APPROVAL_LIMIT) × All IsSayableApproval given
 IsSayable (Get n) = n < 2 ^ 64

@@ -48,6 +48,12 @@ request_number_of text = do
   number ← number_of (2 ^ 64 - 1) text
   if number == 0 then None else Some number
 
+-- how many records a clue is said to have, from 1 to 2^32 - 1
+abbrev pub count_of : List ℕ → Option ℕ
+count_of text = do
+  count ← number_of (2 ^ 32 - 1) text
+  if count == 0 then None else Some count
+
 -- no bytes as `-`, or 1 to `most` bytes as hexadecimal digits of either case
 abbrev pub bytes_of : ℕ → List ℕ → Option (List ℕ)
 bytes_of most text =

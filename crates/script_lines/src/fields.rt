@@ -4,11 +4,11 @@ ghost use Rattle.std.specs.Prelude.{◌≡◌, ◌≤◌, length, All, Ok, Err, 
 ghost use Rattle.ledger_bytes.specs.declared.limits.TheConstants.{APPROVAL_LIMIT, NAME_LIMIT, PROOF_LIMIT};
 ghost use Rattle.script_lines.specs.Fields.{fields_of, behind, field_at, optional_at, end_at, taken_field};
 ghost use Rattle.script_lines.specs.Reading.{IsStopAt, TakesFields};
-ghost use Rattle.script_lines.specs.Spellings.{text_of, number_of, request_number_of, bytes_of, digest_of, clue_of, which_of, approvals_of, mark_of};
+ghost use Rattle.script_lines.specs.Spellings.{text_of, number_of, request_number_of, count_of, bytes_of, digest_of, clue_of, which_of, approvals_of, mark_of};
 
 use crate::said::{SaidApproval, Which};
 use crate::spellings::{
-    read_approvals, read_bytes, read_clue, read_digest, read_mark, read_number,
+    read_approvals, read_bytes, read_clue, read_count, read_digest, read_mark, read_number,
     read_request_number, read_which,
 };
 use crate::splits::cut;
@@ -99,6 +99,16 @@ impl<'a> Fields<'a> {
             Ok(text) => read_request_number(text).ok_or(bad_field(column)),
             Err(_) => Ok(0),
         }
+    }
+
+    /// How many records a clue has, from 1 to 2^32 - 1 without a leading zero.
+    pub fn count(&mut self) -> Result<u32, Refusal>
+        ensures takes { field_at count_of self.old ≡ taken_field result self.new }
+        ensures goes_on { self.new ≡ behind self.old }
+        ensures refused { IfErr result (λ refusal. refusal ≡ Refusal.BadField self.old.column) }
+    {
+        let column = self.column();
+        read_count(self.text()?).ok_or(bad_field(column))
     }
 
     /// 64 hexadecimal digits of either case.

@@ -24,7 +24,8 @@ pub use receipt::{BlockEnd, put_receipt};
 pub use reply::{Reply, put_refusal, put_reply, reply_text};
 pub use said::{SaidApproval, Which};
 pub use spellings::{
-    is_bytes, read_bytes, read_clue, read_digest, read_name, read_number, read_request_number,
+    is_bytes, read_bytes, read_clue, read_count, read_digest, read_name, read_number,
+    read_request_number,
 };
 pub use spoken::Spoken;
 pub use stop::Stop;

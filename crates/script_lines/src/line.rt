@@ -39,6 +39,15 @@ pub enum Line {
         /// Who approves it, up to 256 members.
         given: Items<SaidApproval>,
     },
+    /// The contents of all records of a clue are to be hidden: `occultclue NAME COUNT APPROVALS`.
+    OccultClue {
+        /// The clue's name, or no bytes for no clue.
+        name: Bytes,
+        /// How many records the clue has, 1 or more.
+        count: u32,
+        /// Who approves it, up to 256 members.
+        given: Items<SaidApproval>,
+    },
     /// All journals in front of a time journal are to be removed: `purge POINT ROOT APPROVALS`.
     Purge {
         /// The time journal's number.

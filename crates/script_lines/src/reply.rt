@@ -380,13 +380,15 @@ pub fn put_refusal(out: &mut Vec<u8>, refusal: &Refusal) -> Result<(), NoMemory>
         | Refusal::MembersFull
         | Refusal::NotaryFault
         | Refusal::NotaryFull
-        | Refusal::CluesFull => put_no(out, code, &[]),
+        | Refusal::CluesFull
+        | Refusal::NothingToHide => put_no(out, code, &[]),
         Refusal::BadField { column: number }
         | Refusal::UnknownMember { member: number }
         | Refusal::WrongKey { member: number }
         | Refusal::MissingApproval { member: number }
         | Refusal::ApprovalOrder { at: number }
-        | Refusal::MemberNumber { next: number } => {
+        | Refusal::MemberNumber { next: number }
+        | Refusal::ClueDiffers { count: number } => {
             put_no(out, code, &[Word::Number(u64::from(*number))])
         }
         Refusal::NotData { kind } | Refusal::NotTime { kind } => {

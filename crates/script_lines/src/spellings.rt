@@ -3,7 +3,7 @@
 ghost use Rattle.std.specs.Prelude.{◌≡◌, ◌≤◌, ◌↔◌, length, option_map, All, IsTrue, IfOk, IfSome, IsSome};
 ghost use Rattle.std.specs.Char.{is_ascii_digit, is_ascii_hexdigit};
 ghost use Rattle.std.specs.List.{list_all};
-ghost use Rattle.script_lines.specs.Spellings.{is_decimal, number_of, request_number_of, bytes_of, digest_of, clue_of, name_of, which_of, approval_of, approvals_of, mark_of};
+ghost use Rattle.script_lines.specs.Spellings.{is_decimal, number_of, request_number_of, count_of, bytes_of, digest_of, clue_of, name_of, which_of, approval_of, approvals_of, mark_of};
 
 use crate::said::{SaidApproval, Which};
 use crate::splits::{cut, split_once};
@@ -41,6 +41,16 @@ pub fn read_request_number(text: &[u8]) -> Option<u64>
     match read_number(text, u64::MAX)? {
         0 => None,
         number => Some(number),
+    }
+}
+
+/// How many records a clue is said to have, from 1 to 2^32 - 1 without a leading zero; None where the text is no such number.
+pub fn read_count(text: &[u8]) -> Option<u32>
+    ensures { result ≡ count_of text.now }
+{
+    match read_number(text, u64::from(u32::MAX))? {
+        0 => None,
+        count => Some(count as u32),
     }
 }
 

@@ -1,7 +1,7 @@
 //! Reading a line of a script: its lane, its verb, and the fields that the verb has.
 
 ghost use Rattle.std.specs.Prelude.{◌≡◌, ◌≤◌, true, IfOk, IfSome};
-ghost use Rattle.script_lines.specs.Grammar.{append_at, member_at, anchor_at, occult_at, purge_at, get_at, prove_at, extend_at, clue_at, head_at, asked_by, lane_of, lane_or_zero, spoken_line};
+ghost use Rattle.script_lines.specs.Grammar.{append_at, member_at, anchor_at, occult_at, clue_occult_at, purge_at, get_at, prove_at, extend_at, clue_at, head_at, asked_by, lane_of, lane_or_zero, spoken_line};
 ghost use Rattle.script_lines.specs.Fields.{field_at};
 ghost use Rattle.script_lines.specs.Reading.{ReadsLine, fits_read};
 ghost use Rattle.script_lines.specs.Spellings.{text_of};
@@ -96,6 +96,8 @@ fn read_asked(alloc: Global, mut fields: Fields) -> Result<Line, Stop>
         read_anchor(fields)
     } else if verb == b"occult".as_slice() {
         read_occult(alloc, fields)
+    } else if verb == b"occultclue".as_slice() {
+        read_clue_occult(alloc, fields)
     } else if verb == b"purge".as_slice() {
         read_purge(alloc, fields)
     } else if verb == b"get".as_slice() {
@@ -172,6 +174,18 @@ fn read_occult(alloc: Global, mut fields: Fields) -> Result<Line, Stop>
         leaf,
         given,
     })
+}
+
+#[tactic(auto, unfolding(crate::specs::Grammar::clue_occult_at))]
+fn read_clue_occult(alloc: Global, mut fields: Fields) -> Result<Line, Stop>
+    ensures reads { ReadsLine result (clue_occult_at fields.entry) }
+    ensures fits { fits_read result ≡ true }
+{
+    let name = fields.clue(alloc)?;
+    let count = fields.count()?;
+    let given = fields.approvals(alloc)?;
+    fields.end()?;
+    Ok(Line::OccultClue { name, count, given })
 }
 
 #[tactic(auto, unfolding(crate::specs::Grammar::purge_at))]

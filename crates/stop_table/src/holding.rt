@@ -1,6 +1,6 @@
 //! What has to stand on the disks behind a stop or a fault.
 
-use crate::script::{CONTENT, ENDS, End, REPLIES, TOLD};
+use crate::script::{ENDS, End, HIDDEN, REPLIES, TOLD};
 use anyhow::{Context, Result, ensure};
 
 /// How many replies stand whole in what was written, and whether all of it is a beginning of the replies, but for a last line
@@ -44,11 +44,11 @@ pub(crate) fn check(status: u8, written: &[u8], a: &[u8], b: &[u8], least: u64) 
         end.size
     );
     ensure!(
-        end.size < 7 || !(has_content(a) || has_content(b)),
-        "the hidden content is there"
+        !has_hidden(a, end.size) && !has_hidden(b, end.size),
+        "a hidden content is there"
     );
     ensure!(
-        end.size < 9 || (a.is_empty() != b.is_empty()),
+        end.size < 12 || (a.is_empty() != b.is_empty()),
         "both files are there behind the purge"
     );
     Ok(())
@@ -61,9 +61,13 @@ fn end_of(written: &[u8]) -> Option<End> {
         .copied()
 }
 
-// Whether the hidden content stands in these bytes.
-fn has_content(bytes: &[u8]) -> bool {
+// Whether a content that one of so many journals hides stands in these bytes.
+fn has_hidden(bytes: &[u8], size: u64) -> bool {
+    HIDDEN.iter().any(|(content, least)| *least <= size && has_content(bytes, content))
+}
+
+fn has_content(bytes: &[u8], content: &str) -> bool {
     bytes
-        .windows(CONTENT.len())
-        .any(|part| part == CONTENT.as_bytes())
+        .windows(content.len())
+        .any(|part| part == content.as_bytes())
 }

@@ -26,7 +26,7 @@ struct Row {
 
 const NO_CLUE: &str = "0000000000000000000000000000000000000000000000000000000000000000";
 
-const ROWS: [Row; 10] = [
+const ROWS: [Row; 11] = [
     Row {
         version: 1,
         kind: Kind::Genesis,
@@ -187,6 +187,22 @@ const ROWS: [Row; 10] = [
         who_digest: "77767ab1fd4b43489530cc43ff92c3e766470978c910b33003f685ad199c702a",
         bytes: "0201000000000000000a0000000100000000000000000000000000000000000000000000000000000000000000000000000000000000000000000000000000000000000000000000000008b0b41cd5c08859a417afc7a15b56ab5262693a95b24ceeca96f7d4ccae548800010001c010091eb9403a6a35887fa926cf1f9af60862593d323626407af4096b64991477767ab1fd4b43489530cc43ff92c3e766470978c910b33003f685ad199c702a",
     },
+    Row {
+        version: 2,
+        kind: Kind::ClueOccult,
+        jsn: 9,
+        member: 0,
+        clue: NO_CLUE,
+        clue_ord: 0,
+        clue_prev: 0,
+        a: 3,
+        b: 0,
+        link: "3536d837609504a8406dcb211cb403cb9290736cc3a94b2fa0601b2cd543e6da",
+        content_len: 0,
+        content_digest: "dbc1b4c900ffe48d575b5da5c638040125f65db0fe3e24494b76ea986457d986",
+        who_digest: "46f9f0832ad3c99dec96f8c9445f884fa771ab59c053940416440a50d96c95d0",
+        bytes: "02060000000000000009000000000000000000000000000000000000000000000000000000000000000000000000000000000000000000000000000000000000000300000000000000003536d837609504a8406dcb211cb403cb9290736cc3a94b2fa0601b2cd543e6da00000000dbc1b4c900ffe48d575b5da5c638040125f65db0fe3e24494b76ea986457d98646f9f0832ad3c99dec96f8c9445f884fa771ab59c053940416440a50d96c95d0",
+    },
 ];
 
 fn digest(text: &str) -> Result<Digest, hex::FromHexError> {
@@ -228,7 +244,7 @@ fn encodes_and_decodes_each_kind(rt: HostRuntime) -> Result<(), Fail> {
 }
 
 // A journal of `ROWS`, a byte of it and what stands there instead, and why that is refused.
-const CHANGED: [(usize, usize, u8, Bad); 8] = [
+const CHANGED: [(usize, usize, u8, Bad); 11] = [
     (2, 0, 0, Bad::NewerFormat { found: 0 }),
     (2, 0, 3, Bad::NewerFormat { found: 3 }),
     (2, 0, 2, Bad::BadFixedField { at: 0 }),
@@ -237,6 +253,9 @@ const CHANGED: [(usize, usize, u8, Bad); 8] = [
     (2, 65, 1, Bad::BadFixedField { at: 58 }),
     (9, 0, 1, Bad::BadFixedField { at: 106 }),
     (9, 109, 0, Bad::BadFixedField { at: 0 }),
+    (10, 0, 1, Bad::BadKind { found: 6 }),
+    (10, 65, 0, Bad::BadFixedField { at: 58 }),
+    (10, 61, 1, Bad::BadFixedField { at: 58 }),
 ];
 
 #[test]

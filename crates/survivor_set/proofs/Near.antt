@@ -9,8 +9,8 @@ use Rattle.ledger_bytes.specs.Fields.{Unread, ◌>>=◌, bytes_at, number_at, di
 use Rattle.journal_record.specs.declared.approval.TheConstants.{WHO_LIMIT}
 use Rattle.journal_record.specs.declared.header.Header.{Header}
 use Rattle.journal_record.specs.declared.header.Kind.{Kind}
-use Rattle.journal_record.specs.Reading.{carried_at, layout_at, front_at, clue_at, own_at, parts_at, fields_at, header_at, known_version, known_kind}
-use Rattle.journal_record.specs.Rules.{kind_of, is_version, version_of, carries_a, carries_len, jsn_ok, member_ok, clue_ok, clue_ord_ok, clue_prev_ok, a_ok, b_ok, content_len_ok}
+use Rattle.journal_record.specs.Reading.{carried_at, layout_at, front_at, clue_at, own_at, parts_at, fields_at, header_at, known_version, known_kind, kind_in}
+use Rattle.journal_record.specs.Rules.{kind_of, is_version, is_kind_in, version_of, carries_a, carries_len, jsn_ok, member_ok, clue_ok, clue_ord_ok, clue_prev_ok, a_ok, b_ok, link_ok, content_len_ok}
 use Rattle.journal_record.specs.Items.{Item, content_at, body_at, state_ok, who_place, who_at, item_at}
 use Rattle.journal_record.proofs.ReadingLaws.{header_back}
 use Rattle.survivor_set.specs.Steps.{IsNearBad}
@@ -72,6 +72,9 @@ module _ (most : ℕ) where
   if_near true f g one other = one
   if_near false f g one other = other
 
+  held_near : (version : ℕ) (kind : Kind) (code : ℕ) → IsNear most (kind_in version kind code)
+  held_near version kind code = if_near (is_kind_in version kind) (Ok tt) (Err (BadKind code)) tt tt
+
   module _ (some : 175 ≤ most) where
     front_near : (l : Unread) → IsNear most (front_at l)
     unfolding front_at
@@ -92,7 +95,8 @@ module _ (most : ℕ) where
     unfolding own_at
     own_near version kind jsn l = near_then (number_at w64 l) _ (number_near w64 l)
         (λ a. near_then (check (a_ok kind jsn a.0 && carries_a version kind a.0) 58) _ (check_near (a_ok kind jsn a.0 && carries_a version kind a.0) 58 (omega (arith, some))) (λ _. near_then (number_at w64 a.1) _ (number_near w64 a.1)
-        (λ b. near_then (check (b_ok kind b.0) 66) _ (check_near (b_ok kind b.0) 66 (omega (arith, some))) (λ _. near_then (digest_at b.1) _ (digest_near b.1) (λ link. tt)))))
+        (λ b. near_then (check (b_ok kind b.0) 66) _ (check_near (b_ok kind b.0) 66 (omega (arith, some))) (λ _. near_then (digest_at b.1) _ (digest_near b.1)
+        (λ link. near_then (check (link_ok kind link.0) 74) _ (check_near (link_ok kind link.0) 74 (omega (arith, some))) (λ _. tt))))))
 
     parts_near : (version : ℕ) (kind : Kind) (l : Unread) → IsNear most (parts_at version kind l)
     unfolding parts_at
@@ -121,7 +125,8 @@ module _ (most : ℕ) where
     unfolding layout_at
     layout_near l = near_then (number_at w8 l) _ (number_near w8 l)
         (λ version. near_then (known_version version.0) _ (version_near version.0) (λ _. near_then (number_at w8 version.1) _ (number_near w8 version.1)
-        (λ code. near_then (known_kind code.0) _ (kind_near code.0) (λ kind. carried_near version.0 kind code.1))))
+        (λ code. near_then (known_kind code.0) _ (kind_near code.0)
+        (λ kind. near_then (kind_in version.0 kind code.0) _ (held_near version.0 kind code.0) (λ _. carried_near version.0 kind code.1)))))
 
     header_near : (l : Unread) → IsNear most (header_at l)
     unfolding header_at

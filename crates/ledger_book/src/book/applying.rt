@@ -15,7 +15,9 @@ ghost use Rattle.ledger_book.specs.Purges.{point_after};
 ghost use Rattle.ledger_book.specs.Steps.{IsSame, IsAsBefore, IsLater, HasNumber, HasOperatorRoom, PlacesNothing, NeverReads, Applies, OpenGathers, Anchors};
 
 use super::Book;
-use crate::headers::{new_member_header, occult_header, placed_with, record_header, time_header};
+use crate::headers::{
+    clue_occult_header, new_member_header, occult_header, placed_with, record_header, time_header,
+};
 use journal_record::{Approval, Stamp};
 use ledger_bytes::{Bytes, Digest, NoMemory};
 use ledger_model::{Job, Outcome, PlacedJournal, Query};
@@ -61,6 +63,9 @@ impl Book {
                 leaf,
                 given,
             } => self.apply_occult(*target, leaf, given.as_slice()),
+            Job::OccultClue { clue, count, given } => {
+                self.apply_clue_occult(clue, *count, given.as_slice())
+            }
             Job::Purge { point, root, given } => self.apply_purge(*point, root, given.as_slice()),
             Job::Get { n } => Ok(Outcome::Reading(Query::Get { n: *n })),
             Job::Prove { n } => match self.prove_refusal(*n) {
@@ -173,6 +178,35 @@ impl Book {
         }
         let jsn = self.size;
         let header = occult_header(jsn, target, leaf, given);
+        let placed = placed_with(jsn, &header);
+        self.place_record(&header, placed.leaf)?;
+        Ok(Outcome::Placed(placed))
+    }
+
+    // Judges an occult by clue, and places it where it is accepted.
+    fn apply_clue_occult(
+        &mut self,
+        clue: &Digest,
+        count: u32,
+        given: &[Approval],
+    ) -> Result<Outcome, NoMemory>
+        requires count { length given.now ≤ APPROVAL_LIMIT }
+        requires proofs { All (λ a. length a.proof ≤ PROOF_LIMIT) given.now }
+        ensures ok { IfOk result (λ outcome. (stamp : Option StampRecord) (h : History)
+            → Serves self.old h
+            → Applies self.old.limits stamp h
+            (asked.OccultClue clue.now count given.now) outcome self.new) }
+        ensures number { IfOk result (HasNumber self.old self.new) }
+        ensures err { OnErr result (IsAsBefore self.old self.new) }
+        ensures same { IsSame self.old self.new }
+        ensures unchanged { IfOk result (λ outcome. PlacesNothing outcome → self.new ≡ self.old) }
+        ensures places { IfOk result NeverReads }
+    {
+        if let Some(refusal) = self.clue_occult_refusal(clue, count, given)? {
+            return Ok(Outcome::Refused(refusal));
+        }
+        let jsn = self.size;
+        let header = clue_occult_header(jsn, clue, count, given);
         let placed = placed_with(jsn, &header);
         self.place_record(&header, placed.leaf)?;
         Ok(Outcome::Placed(placed))

@@ -1,4 +1,4 @@
-//! Why a record, a new member, an anchor or an occult is refused.
+//! Why a record, a new member, an anchor or an occult of either kind is refused.
 
 ghost use Rattle.std.specs.Prelude.{◌≡◌, ◌-◌, ◌<◌, ◌≤◌, ◌^◌, ◌↔◌, List, [], ◌∷◌, length, IsTrue, IfErr, IfNone, IfOk, IfSome, OnOk, Option, None, Some};
 ghost use Rattle.ledger_bytes.specs.declared.limits.TheConstants.{MEMBER_LIMIT};
@@ -16,11 +16,11 @@ ghost use Rattle.ledger_model.specs.Numbers.{repeated, link_at};
 ghost use Rattle.ledger_model.specs.Targets.{hider, leaf_at};
 ghost use Rattle.pseudo_genesis.specs.declared.base.Base.{Base};
 ghost use Rattle.ledger_model.specs.Behind.{HasRoomFor, first_of, ordinal_in};
-ghost use Rattle.ledger_model.specs.Judgements.{fullness, hard_fullness, unknown_in, wrong_key_in, clues_full, member_judgements, occult_judgements};
+ghost use Rattle.ledger_model.specs.Judgements.{fullness, hard_fullness, unknown_in, wrong_key_in, clues_full, member_judgements, occult_judgements, clue_occult_judgements};
 ghost use Rattle.member_book.specs.Erasures.{first_refusal};
 ghost use Rattle.ledger_model.specs.Limits.{AreWithin, real_limits};
 ghost use Rattle.ledger_book.specs.Books.{Stands, Serves};
-ghost use Rattle.ledger_book.specs.Facts.{AreFacts, AreFactsBehind, kind_in};
+ghost use Rattle.ledger_book.specs.Facts.{AreFacts, AreFactsBehind, AreClueFacts, AreClueFactsBehind, kind_in};
 ghost use Rattle.ledger_book.specs.Hiders.{hider_in};
 ghost use Rattle.ledger_book.specs.Numbered.{told_number};
 ghost use Rattle.ledger_book.specs.Requests.{request_judgements, room_judgements};
@@ -30,9 +30,9 @@ ghost use Rattle.ledger_book.specs.Steps.{HasOperatorRoom};
 use super::Book;
 use crate::headers::Numbers;
 use crate::hiders::hider_at;
-use erase_rules::{OccultFacts, judge_occult};
+use erase_rules::{ClueFacts, OccultFacts, judge_clue_occult, judge_occult};
 use journal_record::{Approval, Kind};
-use ledger_bytes::{Digest, Refusal};
+use ledger_bytes::{Digest, NoMemory, Refusal};
 use ledger_model::Limits;
 
 impl Book {
@@ -213,6 +213,28 @@ impl Book {
         judge_occult(&self.facts(target), &self.members, leaf, given).err()
     }
 
+    /// Why an occult of so many records of a clue is refused, where it is: there is no room for a journal of the operator, or else
+    /// by the clue and the approvals.
+    pub(super) fn clue_occult_refusal(
+        &self,
+        clue: &Digest,
+        count: u32,
+        given: &[Approval],
+    ) -> Result<Option<Refusal>, NoMemory>
+        requires { length given.now < 2 ^ 32 }
+        ensures refusal { IfOk result (λ why. (h : History) → Serves self.now h
+            → why ≡ first_refusal
+            (clue_occult_judgements self.now.limits h clue.now count given.now)) }
+        ensures room { IfOk result (λ why. IfNone why (self.now.size < real_limits.size)) }
+        ensures within { AreWithin self.now.limits }
+    {
+        if let Some(refusal) = self.hard_refusal() {
+            return Ok(Some(refusal));
+        }
+        let facts = self.clue_facts(clue)?;
+        Ok(judge_clue_occult(&facts, &self.members, count, given).err())
+    }
+
     /// What is known of journal `n`, where an occult names it.
     pub(super) fn facts(&self, n: u64) -> OccultFacts
         ensures facts { (h : History) → Serves self.now h → AreFacts h result n }
@@ -237,6 +259,25 @@ impl Book {
     {
         let place = n.checked_sub(self.floor)?;
         hider_at(self.hiders.as_slice(), place as usize)
+    }
+
+    /// What is known of a clue, where an occult of its records names it.
+    pub(super) fn clue_facts(&self, clue: &Digest) -> Result<ClueFacts, NoMemory>
+        ensures facts { IfOk result (λ facts. (h : History) → Serves self.now h
+            → AreClueFacts h facts clue.now) }
+        ensures behind { IfOk result (λ facts. (start : Option Base) (journals : List Entry)
+            → StandsBehind self.now start journals
+            → AreClueFactsBehind start journals facts clue.now) }
+    {
+        let (point, floor) = (self.point, self.floor);
+        let hiders = self.hiders.as_slice();
+        let (count, mut shown) = self.clues.of(clue)?;
+        shown.retain(|n| *n >= point
+            && hider_at(hiders, n.saturating_sub(floor) as usize).is_none());
+        Ok(ClueFacts {
+            count,
+            shown: shown.len() as u64,
+        })
     }
 
     // The kind of a journal that is kept.

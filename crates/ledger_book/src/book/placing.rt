@@ -1,6 +1,6 @@
 //! How a journal is placed in the open block, and what the book notes of it.
 
-ghost use Rattle.std.specs.Prelude.{◌≡◌, ◌+◌, ◌-◌, ◌^◌, ◌<◌, ◌≤◌, List, [], ◌∷◌, ◌++◌, All, true, false, Option, Some, length, OnOk, OnErr};
+ghost use Rattle.std.specs.Prelude.{◌≡◌, ◌+◌, ◌-◌, ◌^◌, ◌<◌, ◌≤◌, List, [], ◌∷◌, ◌++◌, All, true, false, Option, Some, length, IfOk, OnOk, OnErr};
 ghost use Rattle.std.specs.List.{AllByRecursion};
 ghost use Rattle.ledger_bytes.specs.declared.limits.TheConstants.{MEMBER_LIMIT};
 ghost use Rattle.journal_record.specs.Entry.{Entry};
@@ -20,12 +20,13 @@ ghost use Rattle.ledger_model.specs.Behind.{IsNextBehind, ordinal_in, previous_i
 ghost use Rattle.ledger_book.specs.Books.{Stands};
 ghost use Rattle.ledger_book.specs.Reading.{StandsBehind};
 ghost use Rattle.ledger_book.specs.Fronts.{AddsFront};
+ghost use Rattle.ledger_book.specs.Hiders.{AreClued};
 ghost use Rattle.ledger_book.specs.Steps.{IsSame, IsAsBefore, MayPlace, IsLeafOf, OpenGathers, point_with, reached_with, with_clue_of, with_time_of};
 
 use super::Book;
 use crate::fronts::FrontTargets;
 use crate::headers::Numbers;
-use crate::hiders::hide_target;
+use crate::hiders::hide_targets;
 use clue_index::ClueIndex;
 use journal_record::{Header, Kind};
 use ledger_bytes::{Digest, NoMemory, TimeMark};
@@ -92,6 +93,7 @@ impl Book {
         self.hiders.reserve(1)?;
         self.tree.reserve(1)?;
         self.ends.reserve(1)?;
+        let clued = self.clued_by(header)?;
         let before = self.numbers.add(header, self.size)?;
         match add_to_indexes(
             &mut self.times,
@@ -110,11 +112,22 @@ impl Book {
         self.tree.add_leaves(&[leaf]);
         self.headers.push_reserved(*header);
         self.hiders.push_reserved(0);
-        hide_target(&mut self.hiders, self.floor, header);
+        hide_targets(&mut self.hiders, self.floor, header, clued.as_slice());
         self.size += 1;
         self.point = point_behind(header, self.point);
         self.reached = reached_behind(header, self.floor, self.reached);
         Ok(())
+    }
+
+    // The kept journals of the clue that an occult by clue with this header names, and none where it is of another kind.
+    fn clued_by(&self, header: &Header) -> Result<Vec<u64>, NoMemory>
+        ensures { IfOk result (λ clued. AreClued self.now.clues header.now clued.items) }
+    {
+        if header.kind != Kind::ClueOccult {
+            return Ok(Vec::new(*self.headers.allocator()));
+        }
+        let (_, clued) = self.clues.of(&header.link)?;
+        Ok(clued)
     }
 
     /// Places a new member, whose journal has this leaf digest, in the open block.

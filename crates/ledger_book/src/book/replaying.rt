@@ -1,15 +1,15 @@
 //! How a book is filled from a file: each journal that was read is placed again, where it is the next one.
 
-ghost use Rattle.std.specs.Prelude.{◌≡◌, ◌<◌, ◌≤◌, ◌↔◌, List, [], ◌∷◌, length, Option, None, IsTrue, IfOk, OnErr};
+ghost use Rattle.std.specs.Prelude.{◌≡◌, ◌<◌, ◌≤◌, ◌↔◌, ◌&&◌, ◌||◌, ◌==◌, not, nat_lt, List, [], ◌∷◌, length, Option, None, IsTrue, IfOk, OnErr};
 ghost use Rattle.ledger_bytes.specs.declared.limits.TheConstants.{MEMBER_LIMIT};
 ghost use Rattle.journal_record.specs.Entry.{Entry};
 ghost use Rattle.journal_record.specs.Rules.{IsHeader};
 ghost use Rattle.journal_record.specs.declared.header.Kind.TheVariants as kind;
 ghost use Rattle.ledger_model.specs.History.{History};
-ghost use Rattle.ledger_model.specs.Lawful.{IsNextOf, IsNextOccult, IsNextPurge, IsNextRecord};
+ghost use Rattle.ledger_model.specs.Lawful.{IsNextOf, IsNextOccult, IsNextClueOccult, IsNextPurge, IsNextRecord};
 ghost use Rattle.ledger_model.specs.Limits.{AreWithin, real_limits};
 ghost use Rattle.pseudo_genesis.specs.declared.base.Base.{Base};
-ghost use Rattle.ledger_model.specs.Behind.{IsNextBehind, IsOwnBehind, IsRecordBehind, IsOccultBehind, IsPurgeBehind};
+ghost use Rattle.ledger_model.specs.Behind.{IsNextBehind, IsOwnBehind, IsRecordBehind, IsOccultBehind, IsClueOccultBehind, IsPurgeBehind};
 ghost use Rattle.ledger_book.specs.Books.{Stands, Serves};
 ghost use Rattle.ledger_book.specs.Places.{HasNextPlace, HasPlaceBehind};
 ghost use Rattle.ledger_book.specs.Reading.{StandsBehind};
@@ -21,7 +21,7 @@ use crate::fronts::FrontTargets;
 use crate::numbers::NumberIndex;
 use block_file::Damage;
 use clue_index::ClueIndex;
-use erase_rules::target_refusal;
+use erase_rules::{ClueFacts, target_refusal};
 use journal_record::{Header, Kind};
 use ledger_bytes::{Digest, NoMemory, Sha};
 use ledger_model::Limits;
@@ -100,7 +100,7 @@ impl Book {
         ensures ended { (self.new.blocks ≡ self.old.blocks)
             × (self.new.sealed ≡ self.old.sealed) }
     {
-        if !self.is_next(header) {
+        if !self.is_next(header)? {
             return Ok(Err(Damage::Entry { jsn: self.size }));
         }
         if header.kind == Kind::Member {
@@ -112,49 +112,53 @@ impl Book {
     }
 
     // Whether a header is the next one, by the limits of each ledger but those for trial.
-    fn is_next(&self, header: &Header) -> bool
+    fn is_next(&self, header: &Header) -> Result<bool, NoMemory>
         requires layout { IsHeader header.now }
-        ensures next { (h : History) → Serves self.now h → IsTrue result ↔ MayPlace h header.now }
-        ensures behind { (start : Option Base) (journals : List Entry)
+        ensures next { IfOk result (λ is. (h : History) → Serves self.now h
+            → IsTrue is ↔ MayPlace h header.now) }
+        ensures behind { IfOk result (λ is. (start : Option Base) (journals : List Entry)
             → StandsBehind self.now start journals
-            → IsTrue result ↔ IsNextBehind start journals header.now }
-        ensures room { IsTrue result → self.now.size < real_limits.size }
-        ensures above { IsTrue result → self.now.point ≤ point_with header.now self.now.point }
-        ensures few { IsTrue result → header.now.kind ≡ kind.Member
-            → length self.now.members < MEMBER_LIMIT }
+            → IsTrue is ↔ IsNextBehind start journals header.now) }
+        ensures room { IfOk result (λ is. IsTrue is → self.now.size < real_limits.size) }
+        ensures above { IfOk result (λ is. IsTrue is
+            → self.now.point ≤ point_with header.now self.now.point) }
+        ensures few { IfOk result (λ is. IsTrue is → header.now.kind ≡ kind.Member
+            → length self.now.members < MEMBER_LIMIT) }
     {
         let most = Limits::real().size;
         if header.jsn != self.size || self.size >= most {
-            return false;
+            return Ok(false);
         }
         // A base's point is a time journal.
         if self.size == self.floor && header.kind != Kind::Time {
-            return false;
+            return Ok(false);
         }
         self.is_next_of(header)
     }
 
     // Whether a header with the next number is the next one by its kind.
-    fn is_next_of(&self, header: &Header) -> bool
+    fn is_next_of(&self, header: &Header) -> Result<bool, NoMemory>
         requires room { self.now.size < real_limits.size }
         requires layout { IsHeader header.now }
         requires jsn { header.now.jsn ≡ self.now.size }
-        ensures next { (h : History) → Serves self.now h
-            → IsTrue result ↔ IsNextOf h header.now header.now.kind }
-        ensures behind { (start : Option Base) (journals : List Entry)
+        ensures next { IfOk result (λ is. (h : History) → Serves self.now h
+            → IsTrue is ↔ IsNextOf h header.now header.now.kind) }
+        ensures behind { IfOk result (λ is. (start : Option Base) (journals : List Entry)
             → StandsBehind self.now start journals
-            → IsTrue result ↔ IsOwnBehind start journals header.now header.now.kind }
-        ensures above { IsTrue result → self.now.point ≤ point_with header.now self.now.point }
-        ensures few { IsTrue result → header.now.kind ≡ kind.Member
-            → length self.now.members < MEMBER_LIMIT }
+            → IsTrue is ↔ IsOwnBehind start journals header.now header.now.kind) }
+        ensures above { IfOk result (λ is. IsTrue is
+            → self.now.point ≤ point_with header.now self.now.point) }
+        ensures few { IfOk result (λ is. IsTrue is → header.now.kind ≡ kind.Member
+            → length self.now.members < MEMBER_LIMIT) }
     {
         match header.kind {
-            Kind::Content => self.is_next_record(header),
-            Kind::Member => header.a == u64::from(self.members.count()),
-            Kind::Time => true,
-            Kind::Occult => self.is_next_occult(header),
-            Kind::Purge => self.is_next_purge(header),
-            Kind::Genesis => false,
+            Kind::Content => Ok(self.is_next_record(header)),
+            Kind::Member => Ok(header.a == u64::from(self.members.count())),
+            Kind::Time => Ok(true),
+            Kind::Occult => Ok(self.is_next_occult(header)),
+            Kind::ClueOccult => self.is_next_clue_occult(header),
+            Kind::Purge => Ok(self.is_next_purge(header)),
+            Kind::Genesis => Ok(false),
         }
     }
 
@@ -212,6 +216,19 @@ impl Book {
         target_refusal(&self.facts(target), &header.link).is_none()
     }
 
+    // Whether an occult by clue is the next one, where its number is: it tells how many records its clue has, and one of them is
+    // kept and shown. Until the purge to the first header that is kept tells it, nothing is known of which are kept.
+    fn is_next_clue_occult(&self, header: &Header) -> Result<bool, NoMemory>
+        ensures next { IfOk result (λ is. (h : History) → Serves self.now h
+            → IsTrue is ↔ IsNextClueOccult h header.now) }
+        ensures behind { IfOk result (λ is. (start : Option Base) (journals : List Entry)
+            → StandsBehind self.now start journals
+            → IsTrue is ↔ IsClueOccultBehind start journals header.now) }
+    {
+        let facts = self.clue_facts(&header.link)?;
+        Ok(may_hide(header.a, &facts, self.reached))
+    }
+
     // Whether a purge is the next one, where its number is. Nothing is known of a point in front of the first header that
     // is kept.
     fn is_next_purge(&self, header: &Header) -> bool
@@ -231,6 +248,14 @@ impl Book {
         }
         is_time(self.kind_of(point))
     }
+}
+
+// Whether an occult by clue that tells this count may be next, by what is known of its clue; where the purge to the first header
+// that is kept isn't known, nothing is asked of what is shown.
+fn may_hide(count: u64, facts: &ClueFacts, reached: bool) -> bool
+    ensures { result ≡ (count == facts.now.count && (nat_lt 0 facts.now.shown || not reached)) }
+{
+    count == u64::from(facts.count) && (facts.shown > 0 || !reached)
 }
 
 // Whether a journal of this kind tells a time.

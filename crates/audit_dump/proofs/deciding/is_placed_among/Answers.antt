@@ -14,3 +14,8 @@ pub returns-in-Purge : goal.returns-in-Purge
 returns-in-Purge g c =
     as_its_kind (g.V.Verifier.shows c.args.verifier.now) c.args.id.now.0 (keys c.args.known.now) c.args.needed.now c.args.root c.args.journal.now kind.Purge c.is_placed_purge.result
     (sym (ap (λ (x : Item). x.header.kind) c.journal.view_is) ∙ c.in-Purge.is) c.is_placed_purge.ensures
+
+pub returns-in-ClueOccult : goal.returns-in-ClueOccult
+returns-in-ClueOccult g c =
+    as_its_kind (g.V.Verifier.shows c.args.verifier.now) c.args.id.now.0 (keys c.args.known.now) c.args.needed.now c.args.root c.args.journal.now kind.ClueOccult c.is_placed_clue_occult.result
+    (sym (ap (λ (x : Item). x.header.kind) c.journal.view_is) ∙ c.in-ClueOccult.is) c.is_placed_clue_occult.ensures

@@ -1,10 +1,13 @@
 use Rattle.std.proofs.Common.{◌≡◌, ℕ, ◌++◌, length, map, sym, ap, ◌∙◌, subst, vec_items}
+use denote.Param.Send.{sendable}
+use Rattle.std.proofs.Crossing.{crosses}
 use Rattle.intake_queue.specs.declared.view.View.{View}
 use Rattle.intake_queue.specs.Lanes.{Plan, Below, Settled}
 use Rattle.intake_queue.specs.Passes.{taker_view, sent_by, AreLanes}
 use Rattle.lane_work.specs.declared.kinds.Made.{Made}
 use Rattle.lane_work.proofs.Merging.{are_lanes, merged}
 use Rattle.lane_work.proofs.Ordering.{came, below_front}
+use Rattle.lane_work.proofs.Sent.{bytes_send, job_send, prepared_send}
 use Rattle.lane_work.proofs.lanes.drive.Goals as goal
 
 pub close-requires-clause-lanes : goal.close-requires-clause-lanes
@@ -28,3 +31,6 @@ returns g c first window win count =
     (below_front (λ (p : Made). p.lane) 8 got left (subst (λ (n : ℕ). Below (λ (p : Made). p.lane) n (got ++ left)) c.requires.jobs.1.0 settled.0))
     (merged scheme id first window plan (vec_items c.args.jobs) lanes got left c.requires.jobs.1 win c.beside-pass.ensures.lanes settled (c.beside-pass.ensures.pass.count_is ∙ count))
     c.beside-pass.result.1 c.args.taker.now c.beside-pass.new.taker c.beside-pass.ensures.comes
+
+pub close-requires-send-T : goal.close-requires-send-T
+close-requires-send-T g c κs = search (bytes_send, job_send, prepared_send, sendable, crosses) depth 60

@@ -1,4 +1,6 @@
 use Rattle.std.proofs.Common.{rules, ◌≡◌, ◌+◌, List, [], ◌∷◌, ◌++◌, length, length-append, arith, sym, ap, ◌∙◌, subst}
+use denote.Param.Send.{sendable}
+use Rattle.std.proofs.Crossing.{crosses}
 use Rattle.intake_queue.specs.declared.view.View.{View}
 use Rattle.intake_queue.specs.Passes.{taker_view}
 use Rattle.intake_queue.specs.Lanes.{taker}
@@ -6,6 +8,7 @@ use Rattle.lane_work.specs.declared.kinds.Made.{Made}
 use Rattle.lane_work.specs.Offering.{OffersMade}
 use Rattle.lane_work.specs.declared.taking.State.TheVariants.{Going}
 use Rattle.lane_work.proofs.Chains.{So, goes_none, so_more, so_comes, so_ready}
+use Rattle.lane_work.proofs.Sent.{bytes_send, job_send, prepared_send}
 use Rattle.lane_work.proofs.taking.take_all.Goals as goal
 
 pub loop-init : goal.loop-init
@@ -48,3 +51,6 @@ hand-state-requires g c is = so_ready g.T.Taker.ready g.T.Taker.offers c.loop.st
 
 pub returns-clause-comes : goal.returns-clause-comes
 returns-clause-comes g c = so_comes g.T.Taker.ready g.T.Taker.offers c.loop.state c.args.taker.now (taker_view c.loop.pass).got c.loop.taker c.loop.invariant.4
+
+pub take-next-requires-send-T : goal.take-next-requires-send-T
+take-next-requires-send-T g c κs within = search (bytes_send, job_send, prepared_send, sendable, crosses) depth 60

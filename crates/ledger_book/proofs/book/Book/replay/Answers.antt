@@ -9,9 +9,9 @@ returns-in_ok-place_member-clause-ok c =
     let member : c.args.header.now.kind ≡ kind.Member = search rules in
     record {
       stands = λ h j s next is. c.in_ok-place_member.ensures.ok h j s is member next;
-      next = λ h s. (c.is_next.ensures.next h s).0 c.if-not-is_next.false;
-      stands_behind = λ start es j s is. c.in_ok-place_member.ensures.behind start es j s is member ((c.is_next.ensures.behind start es s).0 c.if-not-is_next.false);
-      next_behind = λ start es s. (c.is_next.ensures.behind start es s).0 c.if-not-is_next.false;
+      next = λ h s. (c.in_ok-is_next.ensures.next h s).0 c.if-not-branch.false;
+      stands_behind = λ start es j s is. c.in_ok-place_member.ensures.behind start es j s is member ((c.in_ok-is_next.ensures.behind start es s).0 c.if-not-branch.false);
+      next_behind = λ start es s. (c.in_ok-is_next.ensures.behind start es s).0 c.if-not-branch.false;
     }
 
 pub returns-in_ok-place_record-clause-ok : goal.returns-in_ok-place_record-clause-ok
@@ -22,7 +22,7 @@ returns-in_ok-place_record-clause-ok c =
     ] in
     record {
       stands = λ h j s next is. c.in_ok-place_record.ensures.ok h j s is content next;
-      next = λ h s. (c.is_next.ensures.next h s).0 c.if-not-is_next.false;
-      stands_behind = λ start es j s is. c.in_ok-place_record.ensures.behind start es j s is content ((c.is_next.ensures.behind start es s).0 c.if-not-is_next.false);
-      next_behind = λ start es s. (c.is_next.ensures.behind start es s).0 c.if-not-is_next.false;
+      next = λ h s. (c.in_ok-is_next.ensures.next h s).0 c.if-not-branch.false;
+      stands_behind = λ start es j s is. c.in_ok-place_record.ensures.behind start es j s is content ((c.in_ok-is_next.ensures.behind start es s).0 c.if-not-branch.false);
+      next_behind = λ start es s. (c.in_ok-is_next.ensures.behind start es s).0 c.if-not-branch.false;
     }
