@@ -23,7 +23,7 @@ import formats
 import proofs
 from check_dump import Given, report_of
 from common import built_program
-from formats import FIELDS, NAMES, OCCULT, PURGE, RECORD, TIME, Dump, big, leaf_of, parts_of, peg_of, root_of
+from formats import CLUE_OCCULT, FIELDS, NAMES, OCCULT, PURGE, RECORD, TIME, Dump, big, leaf_of, parts_of, peg_of, root_of
 
 CLUES = ("-", "a", "b")
 WIDTHS = dict(zip(NAMES, (1, 1, 8, 4, 32, 4, 8, 8, 8, 32, 4, 32, 32)))
@@ -101,7 +101,7 @@ class Grown:
             self.anchors += [int(receipt[1])] if len(receipt) == 8 else []
         return words
 
-    # New members at first, then records and anchors, one of whose records is hidden.
+    # New members at first, then records and anchors. One of the records is hidden, and all of a clue.
     def grow(self):
         if not self.owners:
             self.replies([self.member(2), self.member(3)])
@@ -111,6 +111,7 @@ class Grown:
             first = int(self.replies([*lines, "anchor"])[0][1])
             self.owners.update(zip(range(first, first + len(lines)), owners))
         self.replies([self.occult(self.chance.choice(sorted(self.owners))), "anchor"])
+        self.hide_clue(self.chance.choice(CLUES[1:]))
 
     def member(self, number):
         key = self.key(number)
@@ -126,14 +127,22 @@ class Grown:
 
     def occult(self, target):
         leaf = self.receipts[target]
-        message = formats.occult_request(self.id, target, bytes.fromhex(leaf))
-        return f"occult {target} {leaf} {','.join(f'{member}:{self.sign(member, message).hex()}' for member in (0, 1))}"
+        return f"occult {target} {leaf} {self.approvals((0, 1), formats.occult_request(self.id, target, bytes.fromhex(leaf)))}"
+
+    # Where the clue has no record, or all are hidden already, the line is refused, and places nothing.
+    def hide_clue(self, name):
+        count = int(self.replies([f"clue {name}"])[0][1])
+        message = formats.clue_occult_request(self.id, formats.clue_of(name), count)
+        self.replies([f"occultclue {name} {count} {self.approvals((0, 1), message)}"])
+
+    def approvals(self, members, message):
+        return ",".join(f"{member}:{self.sign(member, message).hex()}" for member in members)
 
     def purge(self, point):
         root = self.replies([f"purge {point} {'0' * 64} -"])[0][2]
         message = formats.purge_request(self.id, point, bytes.fromhex(root))
         members = sorted({0} | {owner for number, owner in self.owners.items() if number < point})
-        self.replies([f"purge {point} {root} {','.join(f'{it}:{self.sign(it, message).hex()}' for it in members)}"])
+        self.replies([f"purge {point} {root} {self.approvals(members, message)}"])
         self.owners = {number: owner for number, owner in self.owners.items() if number > point}
 
     # What it shows: dump, heads, proofs, extensions, lineages and sets.
@@ -363,6 +372,8 @@ def message_of(fields, roots, leaves, id):
         return formats.member_request(id, a & 0xFFFFFFFF, link)
     if kind == OCCULT:
         return formats.occult_request(id, a, link)
+    if kind == CLUE_OCCULT:
+        return formats.clue_occult_request(id, link, a & 0xFFFFFFFF)
     return formats.purge_request(id, a, roots[a]) if kind == PURGE and a in roots else None
 
 

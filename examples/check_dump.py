@@ -13,6 +13,7 @@ import sys
 
 from formats import (
     CLUE_LIMIT,
+    CLUE_OCCULT,
     GENESIS,
     JOURNAL_LIMIT,
     MEMBER,
@@ -28,6 +29,7 @@ from formats import (
     Tree,
     approvals_in,
     chain_key,
+    clue_occult_request,
     content_digest,
     leaf_of,
     member_request,
@@ -92,7 +94,7 @@ class Audit:
         self.given, self.shown_key = given, shown_key
         self.base, self.id, self.first = None, None, 0
         self.journals, self.erased, self.times = [], set(), []
-        self.keys, self.clues, self.tree = [], {}, Tree()
+        self.keys, self.clues, self.clued, self.tree = [], {}, {}, Tree()
         self.point, self.reached, self.hidden, self.numbers = 0, False, set(), {}
         self.leaves, self.roots = [], {}
 
@@ -126,10 +128,15 @@ class Audit:
     def is_next(self, header):
         if self.base and not self.journals and header.kind != TIME:
             return False
-        rules = {RECORD: self.is_next_record, OCCULT: self.is_next_occult, PURGE: self.is_next_purge}
         if header.kind == MEMBER:
             return header.a == len(self.keys)
-        return rules[header.kind](header) if header.kind in rules else True
+        rules = {
+            RECORD: self.is_next_record,
+            OCCULT: self.is_next_occult,
+            PURGE: self.is_next_purge,
+            CLUE_OCCULT: self.is_next_clue_occult,
+        }
+        return header.kind in (GENESIS, TIME) or rules[header.kind](header)
 
     def is_next_record(self, header):
         if header.member >= len(self.keys):
@@ -149,6 +156,15 @@ class Audit:
             return not self.reached
         named = self.journals[target - self.first].header
         return named.kind == RECORD and target >= self.point and header.link == self.leaves[target - self.first]
+
+    # It names how many records its clue has, and hides one of those that are kept. Behind a base the latter is looked at only once the
+    # purge to the base was read.
+    def is_next_clue_occult(self, header):
+        if header.a != self.clues.get(header.link, (0, 0))[0]:
+            return False
+        if self.base and not self.reached:
+            return True
+        return any(number >= self.point and number not in self.hidden for number in self.clued.get(header.link, ()))
 
     def is_next_purge(self, header):
         if header.a <= self.point:
@@ -180,16 +196,22 @@ class Audit:
     def shows(self, member, message, proof):
         return self.shown_key(message, proof) == self.keys[member]
 
-    # The approvals of an occult or a purge. Of a purge in front of the base the root isn't known, and no key is looked at.
+    # The approvals of an occult of either kind or a purge. Of a purge in front of the base the root isn't known, and no key is looked at.
     def are_enough(self, header, approvals):
         members = [member for member, _ in approvals]
         if any(later <= earlier for earlier, later in zip(members, members[1:])) or any(member >= len(self.keys) for member in members):
             return False
-        needed, message = {0, 1}, occult_request(self.id, header.a, header.link)
-        if header.kind == PURGE:
-            needed, message = {0} | self.owners(header.a), self.purge_message(header.a)
+        needed = {0} | self.owners(header.a) if header.kind == PURGE else {0, 1}
+        message = self.message_of(header)
         looked_at = message is None or all(self.shows(member, message, proof) for member, proof in approvals)
         return looked_at and needed <= set(members)
+
+    def message_of(self, header):
+        if header.kind == OCCULT:
+            return occult_request(self.id, header.a, header.link)
+        if header.kind == CLUE_OCCULT:
+            return clue_occult_request(self.id, header.link, header.a)
+        return self.purge_message(header.a)
 
     def purge_message(self, point):
         return purge_request(self.id, point, self.roots[point]) if point >= self.first else None
@@ -208,6 +230,7 @@ class Audit:
         elif header.kind == RECORD:
             if header.clue != ZERO:
                 self.clues[header.clue] = header.clue_ord, header.jsn
+                self.clued.setdefault(header.clue, []).append(header.jsn)
             if header.a:
                 self.numbers[header.member, header.a] = header.jsn
             if journal.content is None:
@@ -218,7 +241,9 @@ class Audit:
             self.times.append(header)
         elif header.kind == OCCULT:
             self.hidden.add(header.a)
-        else:
+        elif header.kind == CLUE_OCCULT:
+            self.hidden.update(self.clued.get(header.link, ()))
+        elif header.kind == PURGE:
             self.point, self.reached = header.a, self.reached or header.a == self.first
         self.journals.append(journal)
         self.leaves.append(self.leaf)

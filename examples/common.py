@@ -46,13 +46,18 @@ def proof(key, message):
     return (key + hashlib.sha256(b"\x40" + key + message).digest()).hex()
 
 
+# The digest of a clue's name; `-` names none.
+def clue_digest(name):
+    return bytes(32) if name == "-" else hashlib.sha256(b"\x0c" + name.encode()).digest()
+
+
 # The same line, made without the program, with a number where it isn't 0.
-def append_line(ledger, content, number=0):
+def append_line(ledger, content, number=0, clue="-"):
     key = bytes.fromhex(OPERATOR)
     digest = hashlib.sha256(b"\x02" + content).digest()
-    request = b"\x03" + ledger + bytes(4) + bytes(32) + len(content).to_bytes(4, "big") + digest
+    request = b"\x03" + ledger + bytes(4) + clue_digest(clue) + len(content).to_bytes(4, "big") + digest
     message = hashlib.sha256(request + (number.to_bytes(8, "big") if number else b"")).digest()
-    return f"0 append 0 - {content.hex() or '-'} {proof(key, message)}{f' {number}' if number else ''}\n".encode()
+    return f"0 append 0 {clue} {content.hex() or '-'} {proof(key, message)}{f' {number}' if number else ''}\n".encode()
 
 
 # A line that purges all journals in front of a point over which this is the root, with the operator's approval.

@@ -2,9 +2,10 @@
 """Kills `ledgerctl run` with SIGKILL while it hides contents, and searches the files for what is to be gone.
 
 A ledger is made in a folder of its own, which is removed at the end. Then, TIMES times, a run appends records with contents that
-stand nowhere else, and hides each as soon as its receipt was printed, until it is killed at a random moment. Then the bytes of both
-files are searched: a content whose occult's receipt was printed whole must not be found, before the ledger is opened again and
-after it. Once it was opened, no content is to be found that `get` tells to be hidden, and each receipt's journal has to be there.
+stand nowhere else, and hides them as soon as their receipts were printed, one by its number or up to five by their clue, until it is
+killed at a random moment. Then the bytes of both files are searched: a content whose occult's receipt was printed whole must not be
+found, before the ledger is opened again and after it. Once it was opened, no content is to be found that `get` tells to be hidden,
+and each receipt's journal has to be there.
 Prints what it saw, and ends with 1 where a content was found or a receipt is lost, or nothing was hidden.
 """
 import hashlib
@@ -16,7 +17,21 @@ import sys
 import tempfile
 import threading
 
-from common import OPERATOR, REGULATOR, WRAPPER, answer, append_line, made_ledger, missing, proof, receipts_in, run_script, searched, words_of
+from common import (
+    OPERATOR,
+    REGULATOR,
+    WRAPPER,
+    answer,
+    append_line,
+    clue_digest,
+    made_ledger,
+    missing,
+    proof,
+    receipts_in,
+    run_script,
+    searched,
+    words_of,
+)
 
 
 def main():
@@ -49,9 +64,19 @@ def main():
 
 
 def occult_line(ledger, number, leaf):
-    message = hashlib.sha256(b"\x04" + ledger + number.to_bytes(8, "big") + bytes.fromhex(leaf)).digest()
-    given = ",".join(f"{member}:{proof(bytes.fromhex(key), message)}" for member, key in enumerate((OPERATOR, REGULATOR)))
+    given = approvals(b"\x04" + ledger + number.to_bytes(8, "big") + bytes.fromhex(leaf))
     return f"0 occult {number} {leaf} {given}\n".encode()
+
+
+def clue_occult_line(ledger, name, count):
+    given = approvals(b"\x0d" + ledger + clue_digest(name) + count.to_bytes(4, "big"))
+    return f"0 occultclue {name} {count} {given}\n".encode()
+
+
+# The operator's and the regulator's approvals of a request.
+def approvals(request):
+    message = hashlib.sha256(request).digest()
+    return ",".join(f"{member}:{proof(bytes.fromhex(key), message)}" for member, key in enumerate((OPERATOR, REGULATOR)))
 
 
 # Runs until it is killed. Tells the contents of placed records by their numbers, which of them were hidden, and what was printed.
@@ -62,23 +87,29 @@ def killed_run(program, folder, ledger, chance):
     timer.start()
     try:
         while True:
-            content = os.urandom(24 + chance.randrange(5000))
-            run.stdin.write(append_line(ledger, content) + b"0 head\n")
-            run.stdin.flush()
-            words = answer(run, printed)
-            answer(run, printed)
-            number, leaf = int(words[2]), words[3].decode()
-            placed[number] = content
-            run.stdin.write(occult_line(ledger, number, leaf))
-            run.stdin.flush()
-            if answer(run, printed)[1] == b"ok":
-                hidden.add(number)
+            name = chance.choice(("-", os.urandom(8).hex()))
+            contents = [os.urandom(24 + chance.randrange(5000)) for _ in range(1 if name == "-" else chance.randint(1, 5))]
+            lines = b"".join(append_line(ledger, content, clue=name) for content in contents)
+            *receipts, _ = asked(run, lines + b"0 head\n", len(contents) + 1, printed)
+            new = {int(words[2]): content for words, content in zip(receipts, contents)}
+            placed.update(new)
+            last, leaf = int(receipts[-1][2]), receipts[-1][3].decode()
+            line = occult_line(ledger, last, leaf) if name == "-" else clue_occult_line(ledger, name, len(contents))
+            if asked(run, line, 1, printed)[0][1] == b"ok":
+                hidden.update(new)
     except (BrokenPipeError, EOFError):
         pass
     timer.cancel()
     run.kill()
     run.wait()
     return placed, hidden, b"".join(printed)
+
+
+# The words of the replies to so many lines.
+def asked(run, lines, count, printed):
+    run.stdin.write(lines)
+    run.stdin.flush()
+    return [answer(run, printed) for _ in range(count)]
 
 
 # The numbers of those journals whose content the ledger tells to be hidden.

@@ -7,10 +7,11 @@ import struct
 
 ZERO = bytes(32)
 EMPTY = hashlib.sha256(b"").digest()
-GENESIS, RECORD, MEMBER, TIME, OCCULT, PURGE = range(6)
+GENESIS, RECORD, MEMBER, TIME, OCCULT, PURGE, CLUE_OCCULT = range(7)
 HEADER_BYTES, ENTRY_BYTES, SLOT_BYTES, WHO_LIMIT = 174, 72, 73, 1_050_112
 CONTENT_LIMIT, FIRST_CONTENT_LIMIT = 1_048_576, 65_536
 JOURNAL_LIMIT, NOTARY_LIMIT, CLUE_LIMIT, MEMBER_LIMIT = 4_294_967_295, 16_777_216, 1_048_576, 256
+COUNT_LIMIT = 4_294_967_295
 
 
 # How bytes break, by the codes with which a set of survivors is refused.
@@ -64,6 +65,10 @@ def record_request(ledger, member, clue, length, digest, number=0):
 
 def occult_request(ledger, target, leaf):
     return sha(b"\x04" + ledger + big(target) + leaf)
+
+
+def clue_occult_request(ledger, clue, count):
+    return sha(b"\x0d" + ledger + clue + big(count, 4))
 
 
 def purge_request(ledger, point, root):
@@ -294,13 +299,21 @@ def wrong_fields(h):
     yield "clue_prev", not 0 < h.clue_prev < h.jsn if h.clue_ord > 1 else h.clue_prev != 0
     yield "a", not a_fits(h)
     yield "b", kind != TIME and h.b != 0
+    yield "link", kind == CLUE_OCCULT and h.link == ZERO
     yield "content_len", not length_fits(h)
 
 
 def a_fits(h):
     if h.kind == RECORD:
         return h.a == 0 or h.version == 2
-    rules = {GENESIS: h.a == 0, MEMBER: 2 <= h.a < MEMBER_LIMIT, TIME: h.a < NOTARY_LIMIT, OCCULT: h.a < h.jsn, PURGE: 0 < h.a < h.jsn}
+    rules = {
+        GENESIS: h.a == 0,
+        MEMBER: 2 <= h.a < MEMBER_LIMIT,
+        TIME: h.a < NOTARY_LIMIT,
+        OCCULT: h.a < h.jsn,
+        PURGE: 0 < h.a < h.jsn,
+        CLUE_OCCULT: 0 < h.a <= COUNT_LIMIT,
+    }
     return rules[h.kind]
 
 
@@ -308,6 +321,11 @@ def length_fits(h):
     if h.kind == RECORD:
         return h.content_len <= (CONTENT_LIMIT if h.version == 2 else FIRST_CONTENT_LIMIT)
     return h.content_len == (64 if h.kind == GENESIS else 0)
+
+
+# Whether version 2 carries a header of this kind with these fields, and version 1 doesn't.
+def is_second(h):
+    return h.kind == CLUE_OCCULT or h.kind == RECORD and (h.a != 0 or h.content_len > FIRST_CONTENT_LIMIT)
 
 
 # The header that stands next. Its first break is at the field that breaks, or at the end of the bytes.
@@ -319,7 +337,7 @@ def read_header(reader):
     if len(data) >= 2 and h.version == 2:
         if len(data) < OFFSETS["content_digest"]:
             raise Broken(len(reader.data), SHORT)
-        if h.kind != RECORD or h.a == 0 and h.content_len <= FIRST_CONTENT_LIMIT:
+        if not is_second(h):
             raise Broken(start)
     if len(data) >= 2:
         check_fields(h, len(data), start)
@@ -327,11 +345,11 @@ def read_header(reader):
     return h
 
 
-# Tells another version, and then another kind, as far as they are there.
+# Tells another version, and then a kind that the version hasn't, as far as they are there.
 def check_layout(data, start):
     if data[:1] and data[0] not in (1, 2):
         raise Broken(start, OTHER_VERSION, data[0])
-    if data[1:2] and data[1] > PURGE:
+    if data[1:2] and data[1] > (PURGE if data[0] == 1 else CLUE_OCCULT):
         raise Broken(start + 1, BAD_KIND, data[1])
 
 

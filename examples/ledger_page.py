@@ -25,7 +25,7 @@ import sys
 import unicodedata
 
 from check_dump import Given, report_of
-from formats import GENESIS, MEMBER, OCCULT, PURGE, RECORD, TIME, ZERO, Broken, Dump, approvals_in, chain_key, clue_of, tag_key
+from formats import CLUE_OCCULT, OCCULT, RECORD, ZERO, Broken, Dump, approvals_in, chain_key, clue_of, tag_key
 
 SHOWN = 4000
 CHECKS = {
@@ -101,7 +101,6 @@ def heads_in(file):
 def shown_of(dump, names):
     clues = Clues(names)
     journals = [row_of(journal, clues) for journal in dump.journals]
-    hidden = {journal.header.a: journal.header.jsn for journal in dump.journals if journal.header.kind == OCCULT}
     tail = dump.tail
     return {
         "id": dump.id.hex(),
@@ -112,8 +111,22 @@ def shown_of(dump, names):
         "notaryRoot": tail.notary_root.hex(),
         "clues": clues.told,
         "journals": journals,
-        "hidden": hidden,
+        "hidden": hidden_in(dump.journals),
     }
+
+
+# Which journal hides which, the first where several do.
+def hidden_in(journals):
+    hidden, clued = {}, {}
+    for header in (journal.header for journal in journals):
+        if header.kind == OCCULT:
+            hidden.setdefault(header.a, header.jsn)
+        elif header.kind == CLUE_OCCULT:
+            for number in clued.get(header.link, ()):
+                hidden.setdefault(number, header.jsn)
+        elif header.kind == RECORD and header.clue != ZERO:
+            clued.setdefault(header.clue, []).append(header.jsn)
+    return hidden
 
 
 class Clues:
@@ -131,7 +144,7 @@ class Clues:
         return self.numbers[clue]
 
 
-# A journal as the page takes it: kind, member, clue, a, b, leaf, link, length, content, its form, approvals, ordinal, request's number.
+# A journal as the page takes it: kind, member, clue or the one that it hides, a, b, leaf, link, length, content, its form, approvals, ordinal.
 def row_of(journal, clues):
     header = journal.header
     text, form = content_of(journal)
@@ -139,7 +152,8 @@ def row_of(journal, clues):
         approvals = [member for member, _ in approvals_in(journal.who)]
     except Broken:
         approvals = [-1]
-    own = header.kind, header.member, clues.number(header.clue), header.a, header.b
+    clue = header.link if header.kind == CLUE_OCCULT else header.clue
+    own = header.kind, header.member, clues.number(clue), header.a, header.b
     return [*map(exact, own), header.leaf().hex(), header.link.hex(), header.content_len, text, form, approvals, header.clue_ord]
 
 

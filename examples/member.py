@@ -12,7 +12,8 @@ that takes a script and gives replies, as `ledgerctl chain run books` does, here
     member.py FILE heads                        writes the heads that are kept, to be given to others: compare them often
     member.py FILE follow                       leads all heads on to the one of now
     member.py FILE check                        does so, and has each record proved and shown, and compares it with what was signed
-    member.py FILE approve occult N LEAF        writes the member's approval; also `purge POINT ROOT` and `member NUMBER KEY`
+    member.py FILE approve occult N LEAF        writes the member's approval; also `purge POINT ROOT`, `member NUMBER KEY` and
+                                                `occultclue NAME COUNT`
     member.py FILE lineage NAME < LINEAGE       checks a lineage under a head that is kept
     member.py FILE set < SET                    checks a set of survivors, and that its root is of the ledger
     member.py FILE revived < LINES              checks what `ledgerctl revive` wrote, under the heads that are kept
@@ -33,7 +34,7 @@ import sys
 
 import formats
 import proofs
-from formats import RECORD, big, clue_of, content_digest, leaf_of, record_request, who_digest
+from formats import COUNT_LIMIT, RECORD, big, clue_of, content_digest, leaf_of, record_request, who_digest
 
 
 class Refused(Exception):
@@ -61,8 +62,8 @@ def parsed():
     parser.add_argument("file", metavar="FILE")
     verbs = parser.add_subparsers(required=True, metavar="VERB")
 
-    def verb(verb_name, does, **named):
-        made = verbs.add_parser(verb_name)
+    def verb(verb_name, does, among=verbs, **named):
+        made = among.add_parser(verb_name)
         made.set_defaults(does=does)
         for word, options in named.items():
             made.add_argument(options.pop("flag", word), **options)
@@ -75,7 +76,10 @@ def parsed():
     verb("heads", heads)
     verb("follow", follow)
     verb("check", check)
-    verb("approve", approve, what={"choices": ("occult", "purge", "member")}, n={"type": int}, root={"type": digest})
+    requests = verbs.add_parser("approve").add_subparsers(required=True, metavar="REQUEST", dest="what")
+    for what in ("occult", "purge", "member"):
+        verb(what, approve, requests, n={"type": int}, root={"type": digest})
+    verb("occultclue", approve_clue_occult, requests, name={"type": clue_name}, count={"type": count})
     verb("lineage", lineage, name={})
     verb("set", survivors)
     verb("revived", revived)
@@ -86,6 +90,18 @@ def digest(word):
     if not re.fullmatch("[0-9a-fA-F]{64}", word):
         raise argparse.ArgumentTypeError("64 hexadecimal digits are wanted")
     return word.lower()
+
+
+def clue_name(word):
+    if word == "-" or " " in word or not 1 <= len(word.encode()) <= 64:
+        raise argparse.ArgumentTypeError("a clue's name is wanted, 1 to 64 bytes other than space")
+    return word
+
+
+def count(word):
+    if not re.fullmatch("[1-9][0-9]{0,9}", word) or int(word) > COUNT_LIMIT:
+        raise argparse.ArgumentTypeError("a number from 1 to 4294967295 is wanted")
+    return int(word)
 
 
 # ---- what is kept
@@ -180,10 +196,21 @@ def join(member, words):
 def approve(member, words):
     root = bytes.fromhex(words.root)
     message = {"occult": formats.occult_request, "purge": formats.purge_request, "member": formats.member_request}[words.what]
-    proof = member.proof(message(member.id(), words.n, root)).hex()
-    member.kept["approved"].append([words.what, words.n, words.root])
-    member.save()
+    proof = approved(member, [words.what, words.n, words.root], message(member.id(), words.n, root))
     print(proof if words.what == "member" else f"{member.kept['member']}:{proof}")
+
+
+def approve_clue_occult(member, words):
+    message = formats.clue_occult_request(member.id(), clue_of(words.name), words.count)
+    print(f"{member.kept['member']}:{approved(member, [words.what, words.name, words.count], message)}")
+
+
+# The proof of a request's message. That it was approved is kept before the proof is shown.
+def approved(member, request, message):
+    proof = member.proof(message).hex()
+    member.kept["approved"].append(request)
+    member.save()
+    return proof
 
 
 # ---- records

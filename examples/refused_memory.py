@@ -3,7 +3,7 @@
 
 A library that `gcc` makes in a folder of its own stands in front of the program's calls of `malloc` and `realloc`, and refuses the
 one with a number. For each number, from 0 until a run makes no such call any more, a new ledger is made, and a run is given records,
-an anchor, questions, an occult and a purge. It has to end with status 6, `fail 6 memory` or a beginning of it as its last line, and
+an anchor, questions, an occult, one by clue and a purge. It has to end with status 6, `fail 6 memory` or a beginning of it as its last line, and
 no reply that is another than without a refusal; or, where memory was only to be made smaller, with status 0 and all replies. Then the
 ledger is opened again, and the journal of each receipt that was written whole has to be there, from the point in force on. Prints how
 many growths were refused and what came of it, and ends with 1 where something is wrong.
@@ -16,7 +16,7 @@ import tempfile
 from collections import Counter
 
 from common import append_line, built_program, made_ledger, missing, purge_line, receipts_in, run_script, words_of
-from erased_runs import occult_line
+from erased_runs import clue_occult_line, occult_line
 
 LIBRARY = r"""
 #define _GNU_SOURCE
@@ -106,11 +106,14 @@ def refused_run(program, library, room, number, leaf, root):
     return Run(folder, ran.returncode, ran.stdout, os.path.exists(mark))
 
 
-# Records, an anchor, questions, an occult of the journal with this leaf, and a purge to the anchor, in front of which this is the root.
+# Records, an anchor, questions, an occult of the journal with this leaf, one of a clue with two records, and a purge to the anchor, in
+# front of which this is the root.
 def script_of(ledger, leaf, root):
     records = b"".join(append_line(ledger, bytes([65 + at]) * (at * 700)) for at in range(1, 6))
     asked = b"0 get 2\n0 clue c\n" + records + b"0 prove 3\n0 extend ledger 4\n0 head\n"
-    return records + b"0 anchor\n" + asked + occult_line(ledger, 2, leaf) + purge_line(ledger, 6, root)
+    clued = b"".join(append_line(ledger, content, clue="c") for content in (b"one", b"two"))
+    hiding = occult_line(ledger, 2, leaf) + clued + clue_occult_line(ledger, "c", 2)
+    return records + b"0 anchor\n" + asked + hiding + purge_line(ledger, 6, root)
 
 
 # The root that the receipt of journal 5 tells, the last one in front of the anchor.

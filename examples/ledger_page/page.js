@@ -1,8 +1,8 @@
 "use strict";
 const data = JSON.parse(document.getElementById("data").textContent);
-const KINDS = ["genesis", "record", "member", "time", "occult", "purge"];
+const KINDS = ["genesis", "record", "member", "time", "occult", "purge", "occultclue"];
 const [KIND, MEMBER, CLUE, A, B, LEAF, LINK, LENGTH, CONTENT, FORM, APPROVALS, ORDINAL] = Array(12).keys();
-const RECORD = 1, ADMITTED = 2, TIME = 3, OCCULT = 4, PURGE = 5, ROW = 28;
+const RECORD = 1, ADMITTED = 2, TIME = 3, OCCULT = 4, PURGE = 5, CLUE_OCCULT = 6, ROW = 28;
 const at = name => document.getElementById(name);
 const journals = data.journals, point = data.point;
 const number = place => point + place;
@@ -124,12 +124,19 @@ function tellGone() {
   }
   const table = made("table", null, made("tr", null, ...["by", "what", "approved by", "placed"].map(name => made("th", null, name))));
   for (const place of given.slice(-500)) {
-    const it = journals[place], target = it[A] - point;
-    const what = it[KIND] === PURGE ? `purged all in front of ${it[A]}` : made("span", null, "hid the content of ", target >= 0 ? link(target) : `journal ${it[A]}, which was purged`);
-    table.append(made("tr", null, ...[link(place), what, members(it[APPROVALS]), span(place)].map(part => made("td", null, part))));
+    const it = journals[place];
+    table.append(made("tr", null, ...[link(place), gone(it), members(it[APPROVALS]), span(place)].map(part => made("td", null, part))));
   }
   at("gone").append(table);
   if (given.length > 500) at("gone").append(made("p", { class: "note" }, `The last 500 of ${given.length}; the others stand below.`));
+}
+
+// What an occult of either kind or a purge gave up.
+function gone(it) {
+  if (it[KIND] === PURGE) return `purged all in front of ${it[A]}`;
+  if (it[KIND] === CLUE_OCCULT) return `hid the contents of all ${it[A]} records of ${data.clues[it[CLUE]]} so far`;
+  const target = it[A] - point;
+  return made("span", null, "hid the content of ", target >= 0 ? link(target) : `journal ${it[A]}, which was purged`);
 }
 
 function span(place) {
@@ -147,7 +154,8 @@ function summary(it) {
     if (it[FORM] === "text") return [it[CONTENT].replace(/\s+/g, " "), "text"];
     return [it[FORM] === "hex" ? it[CONTENT].slice(0, 60) : it[FORM] === "erased" ? "hidden" : "empty", it[FORM]];
   }
-  const words = { 0: "operator's and regulator's keys", 2: `admits member ${it[A]}`, 3: moment(it[B]), 4: `hides ${it[A]}`, 5: `purges all in front of ${it[A]}` };
+  const words = { 0: "operator's and regulator's keys", 2: `admits member ${it[A]}`, 3: moment(it[B]), 4: `hides ${it[A]}`, 5: `purges all in front of ${it[A]}`,
+    6: `hides ${it[A]} records of ${data.clues[it[CLUE]]}` };
   return [words[it[KIND]], "own"];
 }
 
@@ -218,7 +226,7 @@ function tellDetail() {
   const it = journals[chosen], facts = made("dl", null), add = (name, ...value) => facts.append(made("dt", null, name), made("dd", null, ...value));
   add("placed by", members([it[MEMBER]]));
   add("placed", span(chosen));
-  if (it[CLUE] >= 0) add("clue", `${data.clues[it[CLUE]]}, its number ${it[ORDINAL]}`);
+  if (it[CLUE] >= 0) add("clue", data.clues[it[CLUE]] + (it[KIND] === RECORD ? `, its number ${it[ORDINAL]}` : ""));
   if (it[KIND] === RECORD) {
     if (it[A]) add("request's number", it[A]);
     add("content", `${it[LENGTH]} bytes${it[FORM] === "hex" ? ", no text" : ""}`);
