@@ -63,11 +63,17 @@ fn end_of(written: &[u8]) -> Option<End> {
 
 // Whether a content that one of so many journals hides stands in these bytes.
 fn has_hidden(bytes: &[u8], size: u64) -> bool {
-    HIDDEN.iter().any(|(content, least)| *least <= size && has_content(bytes, content))
+    for (content, least) in HIDDEN.iter() {
+        if *least <= size && has_content(bytes, content) {
+            return true;
+        }
+    }
+    false
 }
 
 fn has_content(bytes: &[u8], content: &str) -> bool {
-    bytes
-        .windows(content.len())
-        .any(|part| part == content.as_bytes())
+    !content.is_empty()
+        && bytes
+            .windows(content.len())
+            .any(|part| part == content.as_bytes())
 }
