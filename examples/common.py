@@ -28,6 +28,15 @@ def built_program(named, name="ledgerctl"):
     return os.path.join(BIN, ".built", name)
 
 
+# A program in C, compiled by cc in a folder, or None where it can't be compiled.
+def compiled(text, folder):
+    source, program = os.path.join(folder, "writer.c"), os.path.join(folder, "writer")
+    with open(source, "w") as file:
+        file.write(text)
+    made = subprocess.run(["cc", "-O2", "-o", program, source], capture_output=True)
+    return program if made.returncode == 0 else None
+
+
 # Makes a ledger, and answers its id.
 def made_ledger(program, folder):
     told = subprocess.run([program, "init", folder, "demo", OPERATOR, REGULATOR], capture_output=True, check=True)

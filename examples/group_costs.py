@@ -15,7 +15,7 @@ import sys
 import tempfile
 import time
 
-from common import append_line, built_program, made_ledger, timed, words_of
+from common import append_line, built_program, compiled, made_ledger, timed, words_of
 
 BLOCKS, BYTES = 64, 1 << 20
 WRITER = r"""
@@ -56,7 +56,7 @@ def main():
     room = tempfile.mkdtemp(prefix="measured-", dir=words.folder)
     best, statuses = {}, set()
     try:
-        writer = compiled(room)
+        writer = compiled(WRITER, room)
         for _ in range(words.times):
             for name, seconds, status in measured(programs, writer, room, words):
                 best[name] = min(seconds, best.get(name, seconds))
@@ -66,15 +66,6 @@ def main():
     for name, seconds in best.items():
         print(f"{name}: {seconds:.3f} s, {words.count / seconds:,.0f} records a second")
     return 1 if statuses != {0} else 0
-
-
-# The program in C, or None where it can't be compiled.
-def compiled(room):
-    source, writer = os.path.join(room, "writer.c"), os.path.join(room, "writer")
-    with open(source, "w") as file:
-        file.write(WRITER)
-    made = subprocess.run(["cc", "-O2", "-o", writer, source], capture_output=True)
-    return writer if made.returncode == 0 else None
 
 
 # One turn: each name with its seconds and its status.

@@ -6,6 +6,7 @@ pub mod ParseLaws
 pub mod RecordLaws
 pub mod UniqueLaws
 pub mod VeilLaws
+pub mod WithinLaws
 pub mod WriteLaws
 pub mod WriterLaws
 pub mod ZeroLaws

@@ -39,6 +39,14 @@ ZerosContent at len old new =
     → IsFileOf front (with_content before after head rest content) old.seen → tail_of front before + 1 + length head ≡ at → length content ≡ len
     → IsFileOf front (with_content before after head rest (replicate len 0)) new.seen
 
+-- This range alone changed: all else reads as before, and a crash leaves what it might have left before, but for bytes of
+-- this range.
+-- Example: a crash leaves of 5 5 5, of which nothing is pending, just that. Behind a change of its last byte it may leave 5 5 7,
+-- and not 7 5 5.
+pub record ChangesWithin (at len : ℕ) (old new : State) : Type 0 where
+  pub seen : Outside at len old.seen new.seen
+  pub images : (image : List ℕ) → MayLeave new image → (other : List ℕ) × MayLeave old other × Outside at len other image
+
 -- all but this range reads as before, and is so in each image where nothing was pending
 pub record KeepsOutside (at len : ℕ) (old new : State) : Type 0 where
   pub seen : Outside at len old.seen new.seen

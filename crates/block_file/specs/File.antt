@@ -91,8 +91,3 @@ pub record IsGroupOf (group : List (List ℕ)) (bytes : List ℕ) : Type 0 where
 pub record HasGroup (front : List ℕ) (blocks group : List (List ℕ)) (s : State) : Type 0 where
   pub nothing_pending : IsSettled s
   pub stands : IsFileOf front (blocks ++ group) s.seen
-
--- A block was added to a file, and nothing is pending, so it is there in each image.
--- Example: the file of the front 9 9 and the block 5 was 9 9 01 5 00. With the block 6 7 it is 9 9 01 5 01 6 7 00, for good.
-abbrev pub HasBlock : List ℕ → List (List ℕ) → List ℕ → State → Type 0
-HasBlock front blocks block s = HasGroup front blocks (block ∷ []) s

@@ -14,7 +14,7 @@ use crate::reading::{fill, read_block_head, read_byte, read_over, read_part};
 use crate::records::read_body;
 use crate::tail::{cut_for_good, open_gate, stage};
 use crate::veil::{add, add_head, open_for_good, put};
-use crate::zeroing::zero;
+use crate::zeroing::{zero, zero_pieces};
 use crate::{BlockAt, Damage, FileErr, FileHead};
 use ledger_bytes::{Bytes, Digest, Items};
 use ledger_disk::Disk;
@@ -34,7 +34,7 @@ pub struct BlockFile {
 }
 
 impl BlockFile {
-    ghost use Rattle.block_file.specs.Changes.{AddsBlock, AddsGroup, KeepsOutside, MayAddBlock, MayAddGroup, ZerosContent};
+    ghost use Rattle.block_file.specs.Changes.{AddsBlock, AddsGroup, ChangesWithin, KeepsOutside, MayAddBlock, MayAddGroup, ZerosContent};
     ghost use Rattle.block_file.specs.FileView.{gate_of, base_len_of, base_digest_of, KeepsBase};
 
     /// What the head of a file tells, and None where the file is shut. Of an open file the magic is looked at first,
@@ -279,6 +279,41 @@ impl BlockFile {
         ensures faults { CountsAlone result (D.state disk.old).faults (D.state disk.new).faults }
     {
         zero(disk, at, len)?;
+        Ok(())
+    }
+
+    /// Writes zeros over a range of the blocks, where they don't stand already. Nothing is synced: they stand for good
+    /// once [`BlockFile::sync`] has answered, so several ranges cost one sync.
+    pub fn clear_range<D: Disk>(&mut self, disk: &mut D, at: u64, len: u64) -> Result<(), FileErr>
+        requires { IsSomeAnd (D.state disk.old).told (λ n. at + len ≤ n) }
+        ensures seen { OnOk result (IsTrue D.tells
+            → (D.state disk.new).bytes.seen ≡ overlay at (replicate len 0) (D.state disk.old).bytes.seen) }
+
+        // All else is as before, also what a crash leaves of it.
+        ensures within { IsTrue D.tells
+            → ChangesWithin at len (D.state disk.old).bytes (D.state disk.new).bytes }
+
+        // Where zeros stand there, nothing is written.
+        ensures idle { IsTrue D.tells → IsZeros at len (D.state disk.old).bytes.seen
+            → (D.state disk.new).bytes ≡ (D.state disk.old).bytes }
+        ensures same { self.new ≡ self.old }
+        ensures length { KeepsLength (D.state disk.old).told (D.state disk.new).told }
+        ensures faults { CountsAlone result (D.state disk.old).faults (D.state disk.new).faults }
+    {
+        zero_pieces(disk, at, len)?;
+        Ok(())
+    }
+
+    /// Syncs: what was cleared stands for good.
+    pub fn sync<D: Disk>(&mut self, disk: &mut D) -> Result<(), FileErr>
+        ensures ok { OnOk result (IsTrue D.tells
+            → (D.state disk.new).bytes ≡ settled_state (D.state disk.old).bytes.seen) }
+        ensures err { OnErr result (IsTrue D.tells → (D.state disk.new).bytes ≡ (D.state disk.old).bytes) }
+        ensures same { self.new ≡ self.old }
+        ensures length { KeepsLength (D.state disk.old).told (D.state disk.new).told }
+        ensures faults { CountsAlone result (D.state disk.old).faults (D.state disk.new).faults }
+    {
+        disk.sync()?;
         Ok(())
     }
 

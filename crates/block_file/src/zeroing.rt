@@ -3,6 +3,7 @@
 ghost use Rattle.std.specs.Prelude.{◌≡◌, ◌≢◌, ◌+◌, ◌<◌, ◌≤◌, ℕ, List, length, replicate, IsTrue, IsSomeAnd, IfOk, OnOk, OnErr, true, false};
 ghost use Rattle.ledger_disk.specs.Disk.{MayLeave, settled_state, overlay, with_write, MayHaveWritten, CountsFault, KeepsLength};
 ghost use Rattle.ledger_disk.specs.Guards.{Outside, Confined};
+ghost use Rattle.block_file.specs.Changes.{ChangesWithin};
 ghost use Rattle.block_file.specs.File.{IsSettled, IsZeros};
 
 use crate::reading::fill;
@@ -84,6 +85,7 @@ pub(crate) fn zero_pieces<D: Disk>(disk: &mut D, at: u64, len: u64) -> Result<()
         → Outside at len (D.state disk.old).bytes.seen (D.state disk.new).bytes.seen }
     ensures confined { IsTrue D.tells → IsSettled (D.state disk.old).bytes
         → Confined at len (D.state disk.old).bytes.seen (D.state disk.new).bytes }
+    ensures within { IsTrue D.tells → ChangesWithin at len (D.state disk.old).bytes (D.state disk.new).bytes }
     ensures idle { IsTrue D.tells → IsZeros at len (D.state disk.old).bytes.seen
         → (D.state disk.new).bytes ≡ (D.state disk.old).bytes }
     ensures length { KeepsLength (D.state disk.old).told (D.state disk.new).told }

@@ -258,10 +258,6 @@ module _ (floor : Floor) (digests : GivesDigests floor.root) (edition : Edition)
     )
     keeps_to (suc i) le = let one : i + 1 ≡ suc i = omega arith in subst (λ (k : ℕ). Keeps (gone_to k) (zeroed k) × (length (zeroed k) ≡ length image)) one (keeps_next i (omega (arith, le)) (keeps_to i (omega (arith, le))))
 
-    -- what was gone is so still
-    pub keeps_on : (i : ℕ) → i ≤ length (places_from floor bs) → Keeps gone (zeroed i)
-    keeps_on i le = keeps_fewer (gone_to i) gone (zeroed i) (λ m low is. or_left (gone m) (given m && nat_lt m (floor.first + i)) is) (keeps_to i le).0
-
     -- where they all were gone, the file is the same
     same_next : ((n : ℕ) → given n ≡ true → gone n ≡ true) → (i : ℕ) → i < length (places_from floor bs) → zeroed i ≡ image → zeroed (i + 1) ≡ image
     same_next all i lt before =
@@ -352,26 +348,18 @@ module _ (image : List ℕ) (h : History) (x : StandsFor image h) where
   abbrev x_zeroed : ℕ → List ℕ
   x_zeroed i = zeros_to (is_given_up h) (floor_behind h x.file.parts.gone).first i (places_from (floor_behind h x.file.parts.gone) x.file.parts.kept) image
 
-  -- with zeros over some of what is given up, it stands for the history
-  keeps_given : (i : ℕ) → i ≤ length (places_from (floor_behind h x.file.parts.gone) x.file.parts.kept) → KeepsBlocks (floor_behind h x.file.parts.gone) x.file.edition (is_hidden h) (hidden_before h) x.file.parts.kept (x_zeroed i)
-  keeps_given i le = keeps_on x_floor x_digests x.file.edition (is_hidden h) x.file.parts.kept (is_given_up h) (given_hidden h) (hidden_before h) image x.file.keeps i le
-
-  pub stands_given : (i : ℕ) → i ≤ length (places_from (floor_behind h x.file.parts.gone) x.file.parts.kept) → (s : StandsFor (x_zeroed i) h) × (s.file.edition ≡ x.file.edition)
-  stands_given i le = (record { floor = x.floor; begins = x.begins; file = again x.floor (hidden_before h) (hidden_before h) image (x_zeroed i) h x.file (keeps_given i le) }, refl)
-
-  -- .. whatever stands in place of the next
-  pub stands_torn : (i : ℕ) (p : PlaceAt) → slice_get (places_from (floor_behind h x.file.parts.gone) x.file.parts.kept) i ≡ Some p → is_given_up h ((floor_behind h x.file.parts.gone).first + i) ≡ true
-      → (new : List ℕ) → Outside p.content_at p.content_len (x_zeroed i) new → (s : StandsFor new h) × (s.file.edition ≡ x.file.edition)
-  stands_torn i p got given new out =
-      let inside = slice_get_within x_places i p got in (
-        record {
-          floor = x.floor;
-          begins = x.begins;
-          file = again x.floor (hidden_before h) (hidden_before h) image new h x.file
-              (place_torn x_floor x_digests x.file.edition (is_hidden h) x.file.parts.kept i p got (hidden_before h) (x_zeroed i) (keeps_given i (omega (arith, inside))) (given_hidden h (x_floor.first + i) given) new (given_shown h (x_floor.first + i) given) out);
-        },
-        refl,
-      )
+  -- whatever stands in place of a content that is given up, it stands for the history
+  pub stands_changed : (i : ℕ) (p : PlaceAt) → slice_get (places_from (floor_behind h x.file.parts.gone) x.file.parts.kept) i ≡ Some p → is_given_up h ((floor_behind h x.file.parts.gone).first + i) ≡ true
+      → (new : List ℕ) → Outside p.content_at p.content_len image new → (s : StandsFor new h) × (s.file.edition ≡ x.file.edition)
+  stands_changed i p got given new out = (
+    record {
+      floor = x.floor;
+      begins = x.begins;
+      file = again x.floor (hidden_before h) (hidden_before h) image new h x.file
+          (place_torn x_floor x_digests x.file.edition (is_hidden h) x.file.parts.kept i p got (hidden_before h) image x.file.keeps (given_hidden h (x_floor.first + i) given) new (given_shown h (x_floor.first + i) given) out);
+    },
+    refl,
+  )
 
   -- the file has what is given up
   pub given_there : (n : ℕ) → is_given_up h n ≡ true → (x.floor ≤ n) × (n < size h)

@@ -1,6 +1,6 @@
 -- A purge is finished: what stands for a history does so at each exit, and at last nothing is left undone.
 use Rattle.std.specs.List.{list_any}
-use Rattle.std.specs.Prelude.{Bool, true, false, not, IsTrue, Option, None, Some, max, nat_le, slice_get, ◌==◌, if◌then◌else◌}
+use Rattle.std.specs.Prelude.{Bool, true, false, not, IsTrue, Option, None, Some, max, nat_le, slice_get, if◌then◌else◌}
 use Rattle.std.proofs.Common.{◌≡◌, ◌≢◌, inl, inr, ℕ, ◌+◌, ◌-◌, ◌^◌, ◌<◌, ◌≤◌, ◌&&◌, ◌||◌, List, [], ◌∷◌, ◌++◌, length, take, drop, refl, sym, ◌∙◌, ap, subst, arith, length-append, length-take, length-drop}
 use Rattle.std.proofs.lemmas.Bool.{false_from_ne_true}
 use Rattle.std.proofs.lemmas.List.{nil_from_length, take-append-drop}
@@ -11,8 +11,6 @@ use Rattle.block_file.specs.FileView.{gate_of}
 use Rattle.block_file.specs.declared.file.BlockFile.{BlockFile}
 use Rattle.journal_record.specs.Blocks.{written_blocks}
 use Rattle.journal_record.specs.Entry.{Entry}
-use Rattle.journal_record.specs.declared.header.Kind.{Kind}
-use Rattle.journal_record.specs.declared.header.Kind.TheVariants as kind
 use Rattle.ledger_book.proofs.StandsLaws.{point_is}
 use Rattle.ledger_disk.proofs.Guarding.{settled_image}
 use Rattle.ledger_disk.specs.Disk.{State, MayLeave, settled_state}
@@ -20,7 +18,7 @@ use Rattle.ledger_model.proofs.FitLaws.{size_few}
 use Rattle.ledger_model.proofs.LawfulLaws.{some_journal, two_points}
 use Rattle.ledger_model.proofs.PointLaws.{points_few}
 use Rattle.ledger_model.specs.Bases.{base_of}
-use Rattle.ledger_model.specs.History.{History, journals, journals_of, size, point, greatest_point, purge_point, is_purge}
+use Rattle.ledger_model.specs.History.{History, journals, journals_of, size, point, greatest_point, purge_point}
 use Rattle.ledger_model.specs.Targets.{is_hidden, is_hidden_by, hides}
 use Rattle.pseudo_genesis.specs.Bases.{base_spelling}
 use Rattle.twin_file.proofs.HeadLaws.{tail_size, generation_is as file_generation}

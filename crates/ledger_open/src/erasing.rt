@@ -55,7 +55,8 @@ fn gives_up(book: &Book, n: u64) -> bool
     book.point() <= n && book.hider(n) == Some(book.size() - 1)
 }
 
-/// Gives up each content that the last journal hides and none before it does, in the open file, whose disk this is.
+/// Gives up each content that the last journal hides and none before it does, in the open file, whose disk this is. However
+/// many they are, they are synced once.
 pub(crate) fn finish_in<D: Disk>(
     book: &Book,
     places: &Places,
@@ -82,17 +83,24 @@ pub(crate) fn finish_in<D: Disk>(
 {
     let floor = book.floor();
     let (first, end) = span(book, places.as_slice().len());
+    let mut given_up = false;
     for index in first..end {
         let place = places.as_slice()[index];
         if gives_up(book, floor.saturating_add(index as u64)) {
-            file.zero_range(disk, place.content_at, u64::from(place.content_len))?;
+            file.clear_range(disk, place.content_at, u64::from(place.content_len))?;
+            given_up = true;
         }
+    }
+
+    // Zeros that stand already may be those of a run that was stopped in front of its sync.
+    if given_up {
+        file.sync(disk)?;
     }
     Ok(())
 }
 
 /// Gives up each content that the last journal hides and none before it does: zeros are written over it, where they don't
-/// stand already, and the disk is synced. A fault of the disk is the only error.
+/// stand already, and at last the disk is synced. A fault of the disk is the only error.
 pub fn finish_erasures<D: Disk>(a: &mut D, b: &mut D, opened: &mut Opened) -> Result<(), OpenErr>
     requires told { HasTail (open_of (in_a_of opened.old.twin) (D.state a.old) (D.state b.old)).told
         (file_of opened.old.twin) }

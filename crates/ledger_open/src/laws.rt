@@ -111,7 +111,7 @@ pub fn a_pair_has_one_cause_of_refusal()
         → IsOpenErr a b e → IsOpenErr a b f → e ≡ f }
 {}
 
-/// What the last journal hides and none before it does is given up. A file stands for the history whatever bytes stand in
+/// What no purge took, the last journal hides and none before it does is given up. A file stands for the history whatever bytes stand in
 /// place of such a content, which the file has; and with zeros over all of them all that is hidden is gone. Where there is
 /// none, all that is hidden was gone in a file that begins at the point. One that ended with its tail gate is clean once all
 /// is given up.

@@ -335,6 +335,11 @@ fn cleared_copy(
     let mut piece = [1; 4];
     file.read_range(&mut disk, 60, &mut piece)?;
     assert_eq!(rt; piece, [0, 0, 0, 0]);
+    file.clear_range(&mut disk, 279, 4)?;
+    file.sync(&mut disk)?;
+    let mut piece = [1; 4];
+    file.read_range(&mut disk, 279, &mut piece)?;
+    assert_eq!(rt; piece, [0, 0, 0, 0]);
     file.zero_range(&mut disk, 279, 10)?;
     disk.write(1159, b"left by a commit that failed")?;
     file.trim(&mut disk)?;

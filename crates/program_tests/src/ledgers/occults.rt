@@ -5,9 +5,9 @@ use super::erasing::{BlockEnd, PICKS, ROOM, size_told, stands_in};
 use super::*;
 use ledger_disk::{FuseDisk, Pick};
 
-// The lines place journals 1 to 9: member 2, two of its records, the occults of both, a record of the operator, two more of the
-// member's under the clue of its second, and the occult of that clue.
-const SESSION: [&str; 9] = [
+// The lines place journals 1 to 12: member 2, two of its records, the occults of both, a record of the operator, five more of
+// the member's under the clue of its second, and the occult of that clue.
+const SESSION: [&str; 12] = [
     "0 member 2 0303030303030303030303030303030303030303030303030303030303030303 \
     0101010101010101010101010101010101010101010101010101010101010101\
     6e2700604cd288e681c238fa71ae802ef173e93907477f0111a56a7be4890e8c\n",
@@ -30,49 +30,67 @@ const SESSION: [&str; 9] = [
     87a6c3b859e09c749123ee5a7cf6f7a54afb177f2931191d2361f644e31a064b\n",
     "0 append 2 c 6e6f70 0303030303030303030303030303030303030303030303030303030303030303\
     9e389fe6686d6e9e85398cf0f7afbf7cc089191b6e35b222c5bbfc12d613c494\n",
-    "0 occultclue c 3 \
+    "0 append 2 c 717273 0303030303030303030303030303030303030303030303030303030303030303\
+    163e698bd9b54e4f3a15c199de7646bc026151ed7784b7dec6d9e46748b9ee42\n",
+    "0 append 2 c 747576 0303030303030303030303030303030303030303030303030303030303030303\
+    657d3b125c5e39e978ff559ad975de2e69c2312e1f23462f2284871859195beb\n",
+    "0 append 2 c 777879 0303030303030303030303030303030303030303030303030303030303030303\
+    18ed585f4a824283e561679f13f723c48a25c3bf15bd712f73b5709afc4ad9ed\n",
+    "0 occultclue c 6 \
     0:0101010101010101010101010101010101010101010101010101010101010101\
-    fde414210a7361edd6c8d329656b8164f7c068ec3cf668a0befb774799ef3631,\
+    00ff483b0ae97e32682a5043fb30c203171af377c88ed3b8806212c727b59d91,\
     1:0202020202020202020202020202020202020202020202020202020202020202\
-    6c5ff898559d8a06c5c8c1e2a6e19cdc031f4502acd376e97527e766196a1e69\n",
+    31095bbe78e9102c4a85918cb183241e9171b7335f9b4c2139edbffb50fbdce8\n",
 ];
 
 // The contents, and the numbers of the journals that hide them.
-const HIDDEN: [(&str, usize); 4] = [("abc", 4), ("xyz", 5), ("klm", 9), ("nop", 9)];
+const HIDDEN: [(&str, usize); 7] = [
+    ("abc", 4),
+    ("xyz", 5),
+    ("klm", 12),
+    ("nop", 12),
+    ("qrs", 12),
+    ("tuv", 12),
+    ("wxy", 12),
+];
 
 // What asks for these journals.
-const GETS: &[u8] =
-    b"0 get 1\n0 get 2\n0 get 3\n0 get 4\n0 get 5\n0 get 6\n0 get 7\n0 get 8\n0 get 9\n";
+const GETS: &[u8] = b"0 get 1\n0 get 2\n0 get 3\n0 get 4\n0 get 5\n0 get 6\n\
+    0 get 7\n0 get 8\n0 get 9\n0 get 10\n0 get 11\n0 get 12\n";
 
 // The ends of the blocks.
 const BLOCKS: [BlockEnd; 6] = [
-    (1, "4 ", "no no no no no no no no no "),
-    (4, "ok ok ok 4 ", "whole whole whole no no no no no no "),
+    (1, "4 ", "no no no no no no no no no no no no "),
+    (
+        4,
+        "ok ok ok 4 ",
+        "whole whole whole no no no no no no no no no ",
+    ),
     (
         5,
         "ok ok ok ok 4 ",
-        "whole occulted whole whole no no no no no ",
+        "whole occulted whole whole no no no no no no no no ",
     ),
     (
         6,
         "ok ok ok ok ok 4 ",
-        "whole occulted occulted whole whole no no no no ",
+        "whole occulted occulted whole whole no no no no no no no ",
     ),
     (
-        9,
-        "ok ok ok ok ok ok ok ok 4 ",
-        "whole occulted occulted whole whole whole whole whole no ",
+        12,
+        "ok ok ok ok ok ok ok ok ok ok ok 4 ",
+        "whole occulted occulted whole whole whole whole whole whole whole whole no ",
     ),
     (
-        10,
-        "ok ok ok ok ok ok ok ok ok ",
-        "whole occulted occulted whole whole whole occulted occulted whole ",
+        13,
+        "ok ok ok ok ok ok ok ok ok ok ok ok ",
+        "whole occulted occulted whole whole whole occulted occulted occulted occulted occulted whole ",
     ),
 ];
 
 // How many calls of write, cut and sync the first disk takes in the session: two syncs where the ledger is opened, five calls
-// for each of five blocks, and two for each of four contents that are hidden.
-const CALLS: u64 = 35;
+// for each of five blocks, and one for each of seven contents that are hidden, with a sync for each of three occults.
+const CALLS: u64 = 37;
 
 /// The size up to which receipts were written before the first disk stopped after so many calls, and the two disks.
 fn stopped<R: Threads + Wait + Sync>(
@@ -153,7 +171,7 @@ fn erases_before_the_receipt(rt: HostRuntime) -> Result<(), Fail> {
     let mut erased_late = false;
     for calls in 0..=CALLS {
         let (told, holds, late) = stopped_so(&rt, rt.alloc(), calls)?;
-        assert_eq!(rt; (told == 10, holds), (calls == CALLS, true), "at {calls}");
+        assert_eq!(rt; (told == 13, holds), (calls == CALLS, true), "at {calls}");
         erased_late = erased_late || late;
     }
     assert!(rt; erased_late);

@@ -8,7 +8,7 @@ abbrev pub invariant-loop-index : goal.invariant-loop-index
 invariant-loop-index g l =
     let state = g.D.Disk.state in
     record {
-      wrote : IsTrue g.D.Disk.tells → WroteTo l.fn.book l.fn.places.list l.index (state l.fn.disk).bytes (state l.disk).bytes;
+      wrote : IsTrue g.D.Disk.tells → WroteTo l.fn.book l.fn.places.list l.index l.given_up (state l.fn.disk).bytes (state l.disk).bytes;
       same : l.file ≡ l.fn.file;
       keeps : KeepsLength (state l.fn.disk).told (state l.disk).told;
       faults : (state l.disk).faults ≡ (state l.fn.disk).faults;
