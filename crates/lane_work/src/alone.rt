@@ -1,4 +1,4 @@
-//! Lines of one lane, which need no worker.
+//! A few lines of one lane, which need no worker.
 ghost use Rattle.std.specs.Prelude.{◌≡◌, ◌+◌, ◌^◌, ◌<◌, All, IfSome, OnErr, OnOk, vec_len};
 ghost use Rattle.lane_work.specs.Offering.{OffersLine, RanAlone, LackedAlone};
 
@@ -10,11 +10,17 @@ use crate::tools::Tools;
 use ledger_bytes::{Digest, NoMemory};
 use member_book::Verifier;
 
-/// The lane of all lines, where they belong to one.
+/// From so many lines on a lane that comes by itself is worth a thread, which prepares them while the taker takes.
+const MANY: usize = 128;
+
+/// The lane of all lines, where they belong to one and are few.
 pub(crate) fn only_lane(lines: &[LaneLine]) -> Option<u8>
     ensures low { IfSome result (λ lane. lane < 8) }
     ensures all { IfSome result (λ lane. All (λ l. l.lane ≡ lane) lines.now) }
 {
+    if lines.len() >= MANY {
+        return None;
+    }
     let first = lines.first()?;
     for line in lines {
         if line.lane != first.lane {

@@ -135,9 +135,9 @@ fn set_up(alloc: Global, window: Vec<LaneLine>, first: &[u64; 8]) -> Result<SetU
 
 /// Prepares the lines of a window, or of a part of one, on the ledger with this id, in one worker for each lane that has
 /// lines, and offers them to the taker on the calling thread as they come, each lane's in their order, until all are
-/// offered or the taker stops. `first` has each lane's first number. Where only one lane has lines they are prepared on
-/// the calling thread, and so are those of a lane whose thread can't be started. Behind a line for which there was no
-/// memory nothing is offered.
+/// offered or the taker stops. `first` has each lane's first number. Where only one lane has lines, and fewer than 128,
+/// they are prepared on the calling thread, and so are those of a lane whose thread can't be started. Behind a line for
+/// which there was no memory nothing is offered.
 pub fn run_lanes<R: Threads + Wait + Sync, V: Verifier, G: Gate, T: Taker>(
     tools: &Tools<R, V, G>,
     window: Vec<LaneLine>,

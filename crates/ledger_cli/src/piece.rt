@@ -72,8 +72,8 @@ impl Piece {
         self.mixed
     }
 
-    /// Whether this is one line, of the lane that alone brought lines before: there is no other to be prepared beside.
-    pub(crate) fn is_alone(&self) -> bool
+    // Whether this is one line, of the lane that alone brought lines before: there is no other to be prepared beside.
+    fn is_alone(&self) -> bool
         ensures one { IsTrue result → length self.now.lines.items ≡ 1 }
     {
         match (self.before, self.lines.as_slice()) {

@@ -24,14 +24,11 @@ use std::sync::Wait;
 use std::thread::Threads;
 use time_peg::Notary;
 
-// Whether a piece is taken before its window ends: its line has no other beside it, or no further line was read. Where
-// lines of several lanes come, more is read at once from then on, so that each worker has its share.
+// Whether a piece is taken before its window ends: no further line was read. Where lines of several lanes come, more is read
+// at once from then on, so that each worker has its share.
 fn is_due(piece: &Piece, lines: &mut Lines) -> bool
     ensures { lines.new ≡ lines.old }
 {
-    if piece.is_alone() {
-        return true;
-    }
     if piece.is_mixed() {
         lines.widen();
     }
@@ -41,7 +38,8 @@ fn is_due(piece: &Piece, lines: &mut Lines) -> bool
 /// Answers the lines of a script on a ledger, one after the other, until it ends or a fault ends it. Journals gather in
 /// blocks, and a receipt is written once its block is on the disk for good; other replies are written with it, in the
 /// order in which the lines are taken: each lane's lines in theirs. Lines that the source has given are taken together,
-/// each lane's prepared in a thread of its own; none waits for one that the source hasn't given. That lines are answered
+/// each lane's prepared in a thread of its own, but where one lane has a few; none waits for one that the source hasn't
+/// given. That lines are answered
 /// before a window ends, that replies don't wait for a block that holds nothing, that the gate is passed and that workers run
 /// side by side is in no clause: tests show it.
 pub fn run_session<
