@@ -20,7 +20,7 @@ use Rattle.audit_dump.specs.Claims.{claim_by, claim_of, claims_of}
 use Rattle.audit_dump.specs.Ending.{IsOwnId}
 use Rattle.audit_dump.specs.Journals.{AreCounted, AreKept, AreOneBehind, IsSought, IsToldAt}
 use Rattle.audit_dump.specs.Known.{journal_of, journals_of, root_behind}
-use Rattle.audit_dump.specs.Notes.{AreInOrder, AreMarksOf, Erased, mark_of, marks_of}
+use Rattle.audit_dump.specs.Notes.{AreInOrder, AreMarksOf, Erased, mark_of}
 use Rattle.audit_dump.specs.Passing.{Passed, StandsAfter}
 use Rattle.audit_dump.specs.Reading.{Early, FailsBy, IsGood}
 use Rattle.audit_dump.specs.Reports.{Counts}

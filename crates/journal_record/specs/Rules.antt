@@ -102,7 +102,7 @@ content_len_ok Genesis content_len = content_len == 64
 content_len_ok Content content_len = nat_le content_len CONTENT_LIMIT
 content_len_ok kind content_len = content_len == 0
 
--- every field of a header keeps its rule; digests have none
+-- every field of a header keeps its rule; digests have none, and links none but that of an occult by clue
 pub record IsHeader (h : Header) : Type 0 where
   pub version : IsTrue (version_ok h.version h.kind h.a h.content_len)
   pub jsn : IsTrue (jsn_ok h.kind h.jsn)

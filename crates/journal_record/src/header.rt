@@ -53,7 +53,7 @@ impl Kind {
 /// | Kind | `a` | `b` | `link` |
 /// |---|---|---|---|
 /// | genesis | 0 | 0 | SHA-256 of the byte 0B and the ledger's name |
-/// | content | 0 | 0 | digest of the request |
+/// | content | the request's number, or 0 where it has none | 0 | digest of the request |
 /// | member | the new member's number | 0 | the new member's key |
 /// | time | the notary's index | the notary's time | the salt |
 /// | occult | the hidden journal's number | 0 | that journal's leaf digest |
@@ -98,9 +98,10 @@ impl Header {
     ghost use Rattle.journal_record.specs.Rules.{IsHeader};
 
     /// Reads a header from its 174 bytes. The first break in the order of the bytes is told: `NewerFormat` for a
-    /// version other than 1 and 2, `BadKind` for a kind above 6, and in version 1 above 5, `BadFixedField` with offset 0 where
-    /// the version isn't the header's own, `BadFixedField` with its offset for a field that breaks its rule, `Short` with the input's length where a field isn't whole, and at last `Trailing`. Digests
-    /// may be any, and so may links but that of an occult by clue, which isn't zero.
+    /// version other than 1 and 2, `BadKind` for a kind above 6, and in version 1 above 5, `BadFixedField` with
+    /// offset 0 where the version isn't the header's own, `BadFixedField` with its offset for a field that breaks its
+    /// rule, `Short` with the input's length where a field isn't whole, and at last `Trailing`. Digests may be any,
+    /// and so may links but that of an occult by clue, which isn't zero.
     pub fn decode(bytes: &[u8]) -> Result<Header, Bad>
         // Which answer it is, and at a break which break and where.
         ensures exact { result ≡ header_of bytes.now }

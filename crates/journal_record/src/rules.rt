@@ -6,7 +6,7 @@ ghost use Rattle.journal_record.specs.Rules as rule;
 use crate::{Header, Kind};
 use ledger_bytes::{CONTENT_LIMIT, Digest, MEMBER_LIMIT};
 
-/// The version of the first layout, which carries no number of a record and no content above its limit.
+/// The version of the first layout. It carries no number of a record, no content above its limit and no occult by clue.
 const FIRST_VERSION: u8 = 1;
 
 /// The version that carries what the first doesn't.

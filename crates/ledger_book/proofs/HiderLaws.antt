@@ -1,8 +1,8 @@
 -- Lemmas on the numbers of those that hide others, where a journal more is placed.
-use Rattle.std.proofs.Common.{◌≡◌, ◌≢◌, ℕ, zero, suc, ◌+◌, ◌-◌, ◌<◌, ◌≤◌, ◌||◌, ◌==◌, Bool, true, false, List, [], ◌∷◌, ◌++◌, length, map, filter, drop, take, get_or, Option, Some, None, refl, sym, ◌∙◌, ap, subst, cond, arith, length-append, append-nil, append_assoc, not, set, get_or-set_same, get_or-set_other}
+use Rattle.std.proofs.Common.{◌≡◌, ◌≢◌, ℕ, zero, suc, ◌+◌, ◌-◌, ◌<◌, ◌≤◌, ◌||◌, ◌==◌, Bool, true, false, List, [], ◌∷◌, ◌++◌, length, map, filter, drop, get_or, Option, Some, None, refl, sym, ◌∙◌, ap, subst, cond, arith, length-append, not, set, get_or-set_same, get_or-set_other}
 use Rattle.std.specs.List.{list_any, AllByRecursion}
 use Rattle.std.specs.Option.{is_some, option_or}
-use Rattle.std.specs.Prelude.{IsTrue, nat_le, nat_lt, slice_get}
+use Rattle.std.specs.Prelude.{IsTrue, nat_le, slice_get}
 use Rattle.std.proofs.lemmas.Bool.{eqb-true, eq-eqb, ne_eqb, leb-true, leb-false, ltb-true, true≢false}
 use Rattle.std.proofs.lemmas.List.{length-set}
 use Rattle.std.proofs.lemmas.List.Folds.{list_any-append}

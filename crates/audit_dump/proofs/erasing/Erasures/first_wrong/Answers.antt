@@ -1,4 +1,4 @@
-use Rattle.std.proofs.Common.{◌≡◌, ◌<◌, ◌+◌, ◌≤◌, ℕ, List, length, Bool, true, false, None, arith, refl, sym, subst, ap, ap₂, ◌∙◌, below_more}
+use Rattle.std.proofs.Common.{◌≡◌, ◌<◌, ◌+◌, ℕ, List, length, Bool, true, false, None, arith, refl, sym, subst, ap, ap₂, ◌∙◌, below_more}
 use Rattle.std.specs.Prelude.{get_or, not}
 use Rattle.std.proofs.lemmas.Bool.{true≢false}
 use Rattle.std.specs.Bool.{beq}
