@@ -4,7 +4,8 @@
 It needs formats.py and proofs.py beside it and nothing else; the ledger's programs run elsewhere. What is sent goes through a command
 that takes a script and gives replies, as `ledgerctl chain run books` does, here or behind ssh. FILE has the secret, so keep it as one.
 
-    member.py FILE new                          draws a secret, and writes the member's public key (with --tags: its trial key)
+    member.py FILE new                          draws a secret, and writes the member's public key (with --tags: its trial key; with
+                                                --size N: of N one-time keys, and else of 1,024)
     member.py FILE join ID NUMBER COMMAND..     joins the ledger ID as member NUMBER, and sends lines through COMMAND
     member.py FILE append [--clue NAME]         sends the bytes of standard input as a numbered record, and keeps the receipt
     member.py FILE again                        sends all lines again as they were: each has to have its first receipt
@@ -22,7 +23,8 @@ Each line is kept before it is sent, with its number and, under the scheme of ch
 So a line whose reply was lost is sent again as it was, and is told its record's first receipt.
 
 Ends with 0 where all is as it should be, with 1 where something was refused or is missing, with 2 where the words are of no form, and
-with 3 at an alarm: what was told speaks against what was told before. Then keep the file, and show both to the others.
+with 3 at an alarm: what was told speaks against what was told before. Then the lines and the replies stand in FILE.DATE: keep both
+files, and show the heads and FILE.DATE to the others. FILE itself has the secret, and is shown to nobody.
 """
 import argparse
 import datetime
@@ -47,13 +49,19 @@ class Alarm(Exception):
 
 def main():
     words = parsed()
+    member = Member(words.file)
     try:
-        return words.does(Member(words.file), words) or 0
-    except (Refused, formats.Broken) as refused:
+        return words.does(member, words) or 0
+    except Refused as refused:
         print(refused)
+        return 1
+    except formats.Broken as broken:
+        print(f"this isn't what is wanted here, or isn't whole: {broken}")
         return 1
     except Alarm as alarm:
         print(f"ALARM: {alarm}")
+        if member.said:
+            print(f"kept: {member.file} and {member.keep_said()}")
         return 3
 
 
@@ -70,7 +78,7 @@ def parsed():
 
     verb("new", new, tags={"flag": "--tags", "action": "store_true"}, size={"flag": "--size", "type": int, "default": 1024})
     verb("join", join, id={"type": digest}, number={"type": int}, command={"nargs": argparse.REMAINDER})
-    verb("append", append, clue={"flag": "--clue", "default": "-"})
+    verb("append", append, clue={"flag": "--clue", "default": "-", "type": clue_or_none})
     verb("again", again)
     verb("trust", trust, tree={"choices": ("ledger", "notary")}, size={"type": int}, root={"type": digest})
     verb("heads", heads)
@@ -93,9 +101,13 @@ def digest(word):
 
 
 def clue_name(word):
-    if word == "-" or " " in word or not 1 <= len(word.encode()) <= 64:
-        raise argparse.ArgumentTypeError("a clue's name is wanted, 1 to 64 bytes other than space")
+    if word == "-" or " " in word or "\n" in word or not 1 <= len(word.encode()) <= 64:
+        raise argparse.ArgumentTypeError("a clue's name is wanted, 1 to 64 bytes other than space and newline")
     return word
+
+
+def clue_or_none(word):
+    return word if word == "-" else clue_name(word)
 
 
 def count(word):
@@ -106,12 +118,22 @@ def count(word):
 
 # ---- what is kept
 
+# The forms of replies, by the verbs of their lines, beside that of a refusal. An even number of digits makes bytes.
+NUMBER, DIGEST, BYTES, BOUND = "(0|[1-9][0-9]{0,19})", "[0-9a-f]{64}", "(-|([0-9a-f]{2})+)", "(-|[0-9]+:[0-9]+:[0-9]+)"
+FORMS = {
+    "append": f"ok {NUMBER} {DIGEST} {NUMBER} {NUMBER} {DIGEST}",
+    "head": f"head {DIGEST} {NUMBER} {DIGEST} {NUMBER} {NUMBER} {NUMBER} {DIGEST}",
+    "extend": f"extension (ledger|notary) {NUMBER} {NUMBER} {DIGEST} {BYTES}",
+    "prove": f"proof {NUMBER} {DIGEST} {BOUND} {BOUND} {BYTES}",
+    "get": f"whole {BYTES} {BYTES} {BYTES}|occulted {BYTES} {BYTES}",
+}
+
 
 class Member:
     """What a member keeps, and how it signs and sends."""
 
     def __init__(self, file):
-        self.file, self.kept = file, {}
+        self.file, self.kept, self.said = file, {}, b""
         if os.path.exists(file):
             with open(file) as text:
                 self.kept = json.load(text)
@@ -147,12 +169,39 @@ class Member:
     # The replies to lines, as words without the lane and the number; None where a line has none.
     def send(self, lines):
         script = "".join(f"0 {line}\n" for line in lines).encode()
-        done = subprocess.run(self.kept["command"], input=script, stdout=subprocess.PIPE)
-        told = [line.split(" ") for line in done.stdout.decode().split("\n")[:-1]]
+        try:
+            done = subprocess.run(self.kept["command"], input=script, stdout=subprocess.PIPE)
+        except OSError as error:
+            raise Refused(f"the command can't be started, and nothing was sent: {error}") from None
+        self.said = script + done.stdout
+        told = [line.split(" ") for line in done.stdout.decode(errors="replace").split("\n")[:-1]]
         replies = {words[0]: words[1:] for words in told if words[0].startswith("0.")}
         if done.returncode:
             print(f"the command ended with status {done.returncode}: {' '.join(told[-1]) if told else 'no word'}")
-        return [replies.get(f"0.{at}") for at in range(1, len(lines) + 1)]
+        taken = [replies.get(f"0.{at}") for at in range(1, len(lines) + 1)]
+        for line, words in zip(lines, taken):
+            if words and not re.fullmatch(FORMS[line.split()[0]] + "|no [0-9]+( .*)?", " ".join(words)):
+                raise Alarm(f"the reply to {line[:60]} has no form that there is: {' '.join(words)[:100]}")
+        return taken
+
+    # Keeps what was sent and told last, beside the file, as evidence.
+    def keep_said(self):
+        name = f"{self.file}.{datetime.datetime.now(datetime.timezone.utc):%Y%m%dT%H%M%S.%f}"
+        with open(name, "wb", opener=lambda path, flags: os.open(path, flags, 0o600)) as kept:
+            kept.write(self.said)
+            kept.flush()
+            os.fsync(kept.fileno())
+        return name
+
+    # The replies to lines that place nothing. One that is missing, as where a connection breaks, or a notary that failed (27) speaks
+    # against nothing that was told.
+    def ask(self, lines):
+        replies = self.send(lines)
+        if None in replies:
+            raise Refused(f"{replies.count(None)} of {len(lines)} lines have no reply; ask again")
+        if ["no", "27"] in replies:
+            raise Refused("the notary failed; ask again")
+        return replies
 
     # The heads of a tree, roots by their sizes.
     def heads(self, tree):
@@ -196,13 +245,34 @@ def join(member, words):
 def approve(member, words):
     root = bytes.fromhex(words.root)
     message = {"occult": formats.occult_request, "purge": formats.purge_request, "member": formats.member_request}[words.what]
-    proof = approved(member, [words.what, words.n, words.root], message(member.id(), words.n, root))
+    message = message(member.id(), words.n, root)
+    tell_reach(member, words.what, words.n, words.root, message)
+    proof = approved(member, [words.what, words.n, words.root], message)
     print(proof if words.what == "member" else f"{member.kept['member']}:{proof}")
 
 
 def approve_clue_occult(member, words):
     message = formats.clue_occult_request(member.id(), clue_of(words.name), words.count)
+    tell_reach(member, words.what, words.name, words.count, message)
     print(f"{member.kept['member']}:{approved(member, [words.what, words.name, words.count], message)}")
+
+
+# Tells on standard error what is signed, by its message as `ledgerctl sign` writes it, and which of the member's own records it reaches.
+# The leaf of a record that the member has a receipt of has to be that one's.
+def tell_reach(member, what, named, detail, message):
+    receipts = [(record, record["receipt"]) for record in member.kept["records"] if "receipt" in record]
+    reached = {
+        "occult": lambda record, receipt: int(receipt[0]) == named,
+        "occultclue": lambda record, receipt: record["clue"] == named,
+        "purge": lambda record, receipt: int(receipt[0]) < named,
+        "member": lambda record, receipt: False,
+    }[what]
+    own = [(record, receipt) for record, receipt in receipts if reached(record, receipt)]
+    if what == "occult" and own and own[0][1][1] != detail:
+        raise Refused(f"journal {named} has the leaf {own[0][1][1]} by its receipt: nothing is signed")
+    listed = ", ".join(f"{record['number']} (journal {receipt[0]})" for record, receipt in own)
+    print(f"signed: {what} {named} {detail}, with the message {message.hex()}", file=sys.stderr)
+    print(f"own records that it reaches: {listed or 'none'}", file=sys.stderr)
 
 
 # The proof of a request's message. That it was approved is kept before the proof is shown.
@@ -217,7 +287,10 @@ def approved(member, request, message):
 
 
 def append(member, words):
+    member.id()
     content, kept = sys.stdin.buffer.read(), member.kept
+    if len(content) > formats.CONTENT_LIMIT:
+        raise Refused(f"a record has at most {formats.CONTENT_LIMIT} bytes, and this one {len(content)}: append its digest")
     number, clue = kept["number"], clue_of(words.clue)
     message = record_request(member.id(), kept["member"], clue, len(content), content_digest(content), number)
     kept["number"] += 1
@@ -231,9 +304,9 @@ def append(member, words):
 # The number of a purged record is free again, so its line would be placed anew: it isn't sent.
 def again(member, words):
     member.id()
-    now = member.send(["head"])[0]
-    if not now or now[0] != "head":
-        raise Refused(f"there is no head: {' '.join(now or ['no reply'])}")
+    now = member.ask(["head"])[0]
+    if now[0] != "head":
+        raise Refused(f"there is no head: {' '.join(now)}")
     point = int(now[5])
     take_receipts(member, [record for record in member.kept["records"] if int(record.get("receipt", [point])[0]) >= point])
 
@@ -245,10 +318,10 @@ def line_of(member, record):
 
 # Sends the lines of records, and keeps the receipts. A record that has one has to be told the same.
 def take_receipts(member, records):
-    refused = 0
+    lost = refused = 0
     for record, words in zip(records, member.send([line_of(member, record) for record in records])):
         if not words or words[0] != "ok":
-            refused += 1
+            lost, refused = (lost, refused + 1) if words else (lost + 1, refused)
             print(f"record {record['number']} has no receipt: {' '.join(words) if words else 'no reply'}")
             continue
         receipt = words[1:6]
@@ -258,7 +331,9 @@ def take_receipts(member, records):
         print(f"record {record['number']} is journal {receipt[0]}")
     member.save()
     if refused:
-        raise Refused(f"{refused} lines have no receipt; send them again")
+        raise Refused(f"{refused} lines were refused; docs/FORMATS.md says under Replies what each code means, and what to do")
+    if lost:
+        raise Refused(f"{lost} lines have no reply, and may have been placed all the same; send them again (again)")
 
 
 # ---- heads
@@ -278,7 +353,7 @@ def heads(member, words):
 
 def follow(member, words):
     lines = follow_lines(member)
-    followed(member, lines, member.send(lines))
+    followed(member, lines, member.ask(lines))
 
 
 # The lines by which all heads are led on.
@@ -290,8 +365,8 @@ def follow_lines(member):
 # Checks the replies to them. The heads that led on give way to that of now; those in front of a purge stay.
 def followed(member, lines, replies):
     now = replies[0]
-    if not now or now[0] != "head" or now[1] != member.kept["ledger"]:
-        raise Alarm(f"this isn't the ledger: {' '.join(now or ['no reply'])[:100]}")
+    if now[0] != "head" or now[1] != member.kept["ledger"]:
+        raise Alarm(f"this isn't the ledger: {' '.join(now)[:100]}")
     at = {"ledger": (int(now[2]), now[3]), "notary": (int(now[6]), now[7])}
     led = {"ledger": [], "notary": []}
     for line, words in zip(lines[1:], replies[1:]):
@@ -312,15 +387,16 @@ def followed(member, lines, replies):
 
 
 def leads_on(member, tree, size, words, now):
-    if words and words[:2] == ["no", "21"]:
+    if words[:2] == ["no", "21"]:
         print(f"the head of the {tree} with the size {size} lies in front of a purge, and can't be led on")
         return False
-    if not words or words[0] != "extension":
-        raise Alarm(f"no extension of the {tree} from {size}, which was told before: {' '.join(words or ['no reply'])[:100]}")
+    if words[0] != "extension":
+        raise Alarm(f"no extension of the {tree} from {size}, which was told before: {' '.join(words)[:100]}")
     data = b"" if words[5] == "-" else bytes.fromhex(words[5])
     told = words[1], int(words[2]), (int(words[3]), words[4])
     if told != (tree, size, now) or proofs.refusal_of_extension(size, now[0], bytes.fromhex(now[1]), data, member.heads(tree)):
-        raise Alarm(f"the {tree}'s head {now} doesn't go on from the one of size {size} that was kept")
+        kept = member.kept["heads"][tree][str(size)]
+        raise Alarm(f"the {tree}'s head of size {now[0]}, {now[1]}, doesn't go on from the one of size {size} that was kept, {kept}")
     return True
 
 
@@ -331,23 +407,24 @@ def check(member, words):
     records = [record for record in member.kept["records"] if "receipt" in record]
     lines = follow_lines(member)
     asked = [f"{verb} {record['receipt'][0]}" for record in records for verb in ("prove", "get")]
-    replies = member.send(lines + asked)
+    replies = member.ask(lines + asked)
     followed(member, lines, replies[: len(lines)])
     told = replies[len(lines) :]
     for record, proof, view in zip(records, told[::2], told[1::2]):
         print(f"record {record['number']}, journal {record['receipt'][0]}: {told_of(member, record, proof, view)}")
     waiting = len(member.kept["records"]) - len(records)
     if waiting:
-        raise Refused(f"{waiting} lines have no receipt; send them again")
+        raise Refused(f"{waiting} lines have no receipt; send them again (again)")
 
 
 # What is so of a record, by the replies to `prove` and `get`.
 def told_of(member, record, proof, view):
     jsn, leaf = int(record["receipt"][0]), record["receipt"][1]
-    if proof and proof[:2] == ["no", "21"]:
+    if proof[:2] == ["no", "21"]:
         return purged(member, jsn, int(proof[2]))
-    if not proof or proof[0] != "proof" or not view:
-        raise Alarm(f"journal {jsn} isn't proved: {' '.join(proof or ['no reply'])[:100]}")
+    for verb, reply in (("proved", proof), ("shown", view)):
+        if reply[0] == "no":
+            raise Alarm(f"journal {jsn} isn't {verb}: {' '.join(reply)}")
     bounds = accepted(member, proof)
     if proof[2] != leaf:
         raise Alarm(f"journal {jsn} has the leaf {proof[2]}, and its receipt says {leaf}")
@@ -370,7 +447,7 @@ def accepted(member, words):
     notary = member.heads("notary") or None
     refusal = proofs.refusal_of_proof(member.id(), claim, bytes.fromhex(words[5]), member.heads("ledger"), notary)
     if refusal:
-        raise Alarm(f"the proof of journal {words[1]} isn't accepted: no {' '.join(map(str, refusal))}")
+        raise Alarm(f"the proof of journal {words[1]} isn't accepted: no {' '.join(map(str, refusal))}, {MEANINGS[refusal[0]]}")
     times = [moment(bound) if bound else "-" for bound in claim[2:]]
     return f"placed between {times[0]} and {times[1]}" + ("" if notary else ", by times that weren't checked")
 
@@ -403,6 +480,19 @@ def is_signed(member, record, header):
     told = header.kind, header.member, header.clue, header.a, header.link.hex(), header.content_digest, header.who_digest
     signed = RECORD, member.kept["member"], clue_of(record["clue"]), record["number"], record["message"]
     return told == (*signed, content_digest(content), who_digest(who)) and header.jsn == int(record["receipt"][0])
+
+
+# Why a proof isn't accepted, by the codes of docs/FORMATS.md.
+MEANINGS = {
+    34: "it is under a head of that size, and none is kept",
+    35: "the leaf doesn't lead to the head that is kept",
+    36: "the time in front isn't of this ledger",
+    37: "the time behind isn't of this ledger",
+    38: "a time isn't in the notary's list under the head that is kept",
+    39: "the time in front is later than the one behind",
+    40: "it proves another number, leaf or bound than the reply says",
+    41: "its bytes break there",
+}
 
 
 # ---- lineages and sets
