@@ -78,6 +78,8 @@ def audited(words, data, dump):
     told = {"line": json.dumps(report, separators=(",", ":")), "fault": None}
     if fault:
         told["fault"] = f"{CHECKS[fault[0]]} (check {fault[0]}, at {fault[1]})"
+    if fault and fault[0] == 5 and not words.chain:
+        told["fault"] += "; a ledger of chains is looked at with --chain"
     if words.report:
         with open(words.report) as file:
             told["other"] = file.read().strip()

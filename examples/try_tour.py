@@ -3,13 +3,15 @@
 
 Digests, proofs and times may differ where an anchor's time comes in, so runs of 40 and more hexadecimal digits and times in
 milliseconds are compared as such alone, and the sizes of files within 1 part in 20. Both tours are run twice, since they can be typed
-again. With --write the pages are written anew with what was printed at the first turn.
+again. With --write the pages are written anew with what was printed at the first turn. With --programs FOLDER the programs are
+those that `bin/install` copied to FOLDER, and else those of bin, which are proved and built first where that is to be done.
 
 Ends with 0 where all is as it stands there, with 1 where something is otherwise, and with 2 where the words are of no form.
 """
 import argparse
 import os
 import re
+import shlex
 import subprocess
 import sys
 
@@ -21,10 +23,11 @@ MARK = "-- next command --"
 def main():
     parser = argparse.ArgumentParser(description=__doc__, formatter_class=argparse.RawDescriptionHelpFormatter)
     parser.add_argument("--write", action="store_true", help="write the pages anew")
+    parser.add_argument("--programs", metavar="FOLDER", help="where bin/install copied the programs to (otherwise bin)")
     words = parser.parse_args()
     texts = [open(os.path.join(TOP, page)).read() for page in PAGES]
     steps = [step for text in texts for block in blocks_of(text) for step in steps_of(block)]
-    turns = [printed_by([command for command, _ in steps]) for _ in range(1 if words.write else 2)]
+    turns = [printed_by([command for command, _ in steps], words.programs) for _ in range(1 if words.write else 2)]
     if words.write:
         write(texts, turns[0])
         return 0
@@ -51,8 +54,11 @@ def steps_of(block):
     return steps
 
 
-# What commands print, one behind the other in one shell.
-def printed_by(commands):
+# What commands print, one behind the other in one shell, with the programs of a folder in front of those of bin.
+def printed_by(commands, programs):
+    if programs:
+        front = shlex.quote(os.path.realpath(programs))
+        commands = [command.replace("PATH=$TOP/bin:", f"PATH={front}:", 1) for command in commands]
     script = "".join(f"{command}echo '{MARK}'\n" for command in commands)
     ran = subprocess.run(["bash"], input=script, stdout=subprocess.PIPE, stderr=subprocess.STDOUT, cwd=TOP, text=True)
     return ran.stdout.split(f"{MARK}\n")[:-1]
