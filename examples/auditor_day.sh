@@ -16,7 +16,8 @@
 # alarm: all later times are no smaller, so one clock that was ahead once spoils them. BEHIND is 60 where it isn't given.
 #
 # Ends with 0 where all is as it should be, with 1 where the words are of no form or the command failed, and with 2 at an alarm: the
-# ledger doesn't go on from what was trusted, or a time is wrong. Then keep HEADS and HEADS.DATE, and show them to the others.
+# ledger doesn't go on from what was trusted, or a time is wrong. Then keep HEADS and HEADS.DATE, and show them to the others. It ends
+# with 3 where the ledger says that it was purged beyond the trusted head: a later head of another auditor is wanted, in place of HEADS.
 set -euo pipefail
 
 fail() {
@@ -57,6 +58,12 @@ led=("extend ledger $size")
   fail "the command ended with $?: $(tail -1 "$said")"
 grep -q "^0\.[0-9]* head $id " "$said" || alarm "this isn't the ledger $id"
 [ -n "$look" ] || grep -q '^0\.1 ok ' "$said" || alarm "no anchor: $(head -1 "$said")"
+
+# No extension leads out of what was purged.
+if point=$(sed -n 's/^0\.[0-9]* no 21 //p' "$said") && [ -n "$point" ]; then
+  echo "the ledger says that it was purged up to $point, and the trusted head has $size journals: take a later head from another auditor"
+  exit 3
+fi
 
 # Each head of now goes on from the trusted one.
 script=$(cat "$heads"; sed -n 's/^[^ ]* extension/extend/p' "$said")

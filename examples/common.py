@@ -2,6 +2,7 @@
 import argparse
 import hashlib
 import os
+import shutil
 import subprocess
 import sys
 
@@ -26,6 +27,11 @@ def built_program(named, name="ledgerctl"):
         return os.path.realpath(named)
     subprocess.run([os.path.join(BIN, name), *TRIAL[name]], stdin=subprocess.DEVNULL, stdout=subprocess.DEVNULL)
     return os.path.join(BIN, ".built", name)
+
+
+# The program that was named or stands in PATH, or else the built one.
+def installed_program(named, name="ledgerctl"):
+    return named or shutil.which(name) or built_program(None, name)
 
 
 # A program in C, compiled by cc in a folder, or None where it can't be compiled.

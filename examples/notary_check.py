@@ -20,18 +20,18 @@ import subprocess
 import sys
 import tempfile
 
-from common import built_program
+from common import installed_program
 from formats import SLOT_BYTES, TIME, Broken, Dump, big, leaf_of, parts_of, peg_of, root_of, tree_behind
 
 
 def main():
     parser = argparse.ArgumentParser(description=__doc__, formatter_class=argparse.RawDescriptionHelpFormatter)
-    parser.add_argument("--program", metavar="PATH", help="ledgerctl as it was built (otherwise that of bin/ledgerctl)")
+    parser.add_argument("--program", metavar="PATH", help="ledgerctl (otherwise the one in PATH, or else that of bin/ledgerctl)")
     parser.add_argument("--head", nargs=2, metavar=("NSIZE", "NROOT"), help="a head of the notary that somebody else kept")
     parser.add_argument("--remake", metavar="FILE", help="write the notary's file anew")
     parser.add_argument("folder", metavar="DIR")
     words = parser.parse_args()
-    dump = exported(built_program(words.program), words.folder)
+    dump = exported(installed_program(words.program), words.folder)
     if dump is None:
         return 2
     named, entries = named_entries(dump), dump.tail.entries
