@@ -40,7 +40,7 @@ def main():
     parser = argparse.ArgumentParser(description=__doc__, formatter_class=argparse.RawDescriptionHelpFormatter)
     parser.add_argument("--program", metavar="PATH", help="ledgerctl as it was built (otherwise that of bin/ledgerctl)")
     parser.add_argument("--auditor", metavar="PATH", help="auditctl as it was built (otherwise that of bin/auditctl)")
-    parser.add_argument("count", metavar="COUNT", nargs="?", type=int, default=2000, help="how many texts of each kind, sets a tenth")
+    parser.add_argument("count", metavar="COUNT", nargs="?", type=int, default=2000, help="how many texts of each kind, half as many sets")
     parser.add_argument("seed", metavar="SEED", nargs="?", type=int, default=1)
     words = parser.parse_args()
     both = Both(built_program(words.program), built_program(words.auditor, "auditctl"), random.Random(words.seed))
@@ -52,7 +52,7 @@ def main():
             both.compare_proofs(ledger, words.count // len(ledgers))
         for number in range(words.count):
             both.compare_lineage(ledgers[number % len(ledgers)])
-        for number in range(max(1, words.count // 10)):
+        for number in range(max(1, words.count // 2)):
             both.compare_set(ledgers[number % len(ledgers)])
     return both.told()
 
