@@ -24,7 +24,7 @@ use Rattle.audit_dump.specs.Reports.{IsEndFault, fault_at}
 use Rattle.audit_dump.specs.Reports.Check.{form}
 use Rattle.audit_dump.specs.Tails.{HasFailed, IsEndingOf, TellsEnding}
 use Rattle.audit_dump.specs.Told.{fault_of, report_of}
-use Rattle.audit_dump.specs.Walking.{MayFollow, last_from, place_of}
+use Rattle.audit_dump.specs.Walking.{MayFollow, unread_from, place_of}
 use Rattle.audit_dump.specs.declared.claims.Claim.{Claim}
 use Rattle.audit_dump.specs.declared.ending.Ending.{Ending}
 use Rattle.audit_dump.specs.declared.journals.Journals.{Journals}
@@ -55,8 +55,8 @@ no_long a c x z e f is = subst (λ (k : LineErr). HasEnough a c most_bytes z (Er
 -- ---- what stands behind the journals
 
 -- it is told of what a window holds and what is to come
-tail_place : (x : Seen) (bytes further : List ℕ) → length x.held ≤ x.total → last_from (place_of x) ((x.held ++ bytes) ++ further) ≡ unread x (bytes ++ further)
-tail_place x bytes further within = ap (last_from (place_of x)) (append_assoc x.held bytes further) ∙ unread_place x (bytes ++ further) within
+tail_place : (x : Seen) (bytes further : List ℕ) → length x.held ≤ x.total → unread_from (place_of x) ((x.held ++ bytes) ++ further) ≡ unread x (bytes ++ further)
+tail_place x bytes further within = ap (unread_from (place_of x)) (append_assoc x.held bytes further) ∙ unread_place x (bytes ++ further) within
 
 module _ (given : Given) (id : Digest) (start : Option Base) (items : List Item) (claims : List Claim) (a c : SourceState) (x z : Seen) where
   pub tail_told : (ending : Ending) (fault : Option Fault) → length x.held ≤ x.total → TellsEnding claims a c x z (Ok ending)

@@ -18,7 +18,7 @@ use Rattle.journal_record.specs.declared.header.Kind.TheVariants as kind
 use Rattle.member_book.specs.Erasures.{is_record}
 use Rattle.dump_model.specs.Checks.{is_occult, hides_as, hides, is_erased, is_hidden}
 use Rattle.audit_dump.specs.Ending.{IsFirstWithout}
-use Rattle.audit_dump.specs.Notes.{AreInOrder, AreMarksOf, Erased, IsErasedRightly, as_named, record_clue, is_before, is_clue_occult, is_hidden_by_clue, is_marked_hidden, last_from, last_in, last_occult, mark_of, marks_of, named_at, names, names_clue}
+use Rattle.audit_dump.specs.Notes.{AreInOrder, AreMarksOf, Erased, IsErasedRightly, as_named, record_clue, is_before, is_clue_occult, is_hidden_by_clue, is_marked_hidden, last_named, last_in, last_occult, mark_of, marks_of, named_at, names, names_clue}
 use Rattle.audit_dump.specs.declared.erasing.Mark.{Mark}
 
 -- ---- one is named
@@ -233,10 +233,10 @@ below_next None n lt = tt
 below_next (Some last) n lt = omega (arith, lt)
 
 last_behind : (n k : ℕ) (clue : List ℕ) (last : Option ℕ) (items : List Item) → AreInOrder n items → IsBelow last n
-    → is_before k (last_from last clue items) ≡ (is_before k last || list_any (λ x. names_clue clue x && nat_lt k x.header.jsn) items)
+    → is_before k (last_named last clue items) ≡ (is_before k last || list_any (λ x. names_clue clue x && nat_lt k x.header.jsn) items)
 last_behind n k clue last [] o lt = sym (or-false (is_before k last))
 last_behind n k clue last (x ∷ items) o lt =
-    elim (names_clue clue x) as (λ v. is_before k (last_from (if v then Some x.header.jsn else last) clue items) ≡ (is_before k last || ((v && nat_lt k x.header.jsn) || list_any (λ y. names_clue clue y && nat_lt k y.header.jsn) items))) [
+    elim (names_clue clue x) as (λ v. is_before k (last_named (if v then Some x.header.jsn else last) clue items) ≡ (is_before k last || ((v && nat_lt k x.header.jsn) || list_any (λ y. names_clue clue y && nat_lt k y.header.jsn) items))) [
       | true ↦ last_behind (suc n) k clue (Some x.header.jsn) items o.2 (omega (arith, o.0)) ∙ swallowed last lt (nat_lt k x.header.jsn) refl
       | false ↦ last_behind (suc n) k clue last items o.2 (below_next last n lt)
     ]

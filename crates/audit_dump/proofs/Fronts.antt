@@ -19,7 +19,7 @@ use Rattle.dump_model.specs.Dumps.{magic}
 use Rattle.pseudo_genesis.specs.declared.base.Base.{Base}
 use Rattle.pseudo_genesis.specs.Reading.{base_of}
 use Rattle.audit_dump.specs.Breaks.{Front, base_part_at, begins_as, decoded, front_at, in_dump, magic_at, place_within}
-use Rattle.audit_dump.specs.Walking.{MayFollow, last_from, place_of}
+use Rattle.audit_dump.specs.Walking.{MayFollow, unread_from, place_of}
 use Rattle.audit_dump.specs.Fronts.{unread, Decodes, HasReadOn, IsToldOn, FailsOn, ReadsOn, base_behind, begin_at}
 use Rattle.audit_dump.specs.declared.front.Stop.{Stop}
 use Rattle.audit_dump.specs.declared.front.Stop.TheVariants.{Broken, Failed}
@@ -36,7 +36,7 @@ pub within_seen : (b c : SourceState) (x y : Seen) (bytes : List ℕ) → HasSee
 within_seen b c x y bytes s within = omega (arith, within, s.total, ap length s.held ∙ length-append x.held bytes)
 
 -- it is what is left from the place of the first byte that is held
-pub unread_place : (w : Seen) (coming : List ℕ) → length w.held ≤ w.total → last_from (place_of w) (w.held ++ coming) ≡ unread w coming
+pub unread_place : (w : Seen) (coming : List ℕ) → length w.held ≤ w.total → unread_from (place_of w) (w.held ++ coming) ≡ unread w coming
 unread_place w coming within = ap (λ n. left_from n (w.held ++ coming)) (omega (arith, within, length-append w.held coming))
 
 -- some of what is held may be taken

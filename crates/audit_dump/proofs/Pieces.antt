@@ -25,7 +25,7 @@ use Rattle.merkle_batch.specs.Rows.{StandsFor}
 use Rattle.time_peg.specs.Entries.{NeverFalls, last_time, time_in}
 use Rattle.dump_model.specs.Dumps.{IsNotaryEntry}
 use Rattle.audit_dump.specs.Breaks.{Tail, entries_at, place_within, tail_at}
-use Rattle.audit_dump.specs.Walking.{MayFollow, last_from, place_of}
+use Rattle.audit_dump.specs.Walking.{MayFollow, unread_from, place_of}
 use Rattle.audit_dump.specs.Fronts.{HasReadOn}
 use Rattle.audit_dump.specs.Tails.{StopsShort, HasFailed, HasNoEnd, HasStopped, HasStoppedInEntries, HasTaken, IsEndingOf, IsOfEntries, IsOver, IsToldEnding, StopsOver, TellsEnding, texts_of}
 use Rattle.audit_dump.specs.declared.claims.Claim.{Claim}
@@ -250,7 +250,7 @@ pub tells : (claims : List Claim) (a c : SourceState) (x z : Seen) (text : List 
     → ((further : List ℕ) → MayFollow z further → IsToldEnding claims (left_from (z.total + length further) (text ++ (z.held ++ further))) told) → TellsEnding claims a c x z told
 tells claims a c x z text told within taken ended so = record { bytes = taken.bytes; read_bytes = taken_read a c x z text taken; ended = ended; over = whole_input }
   where
-    whole_input : (further : List ℕ) → MayFollow z further → IsToldEnding claims (last_from (place_of x) ((x.held ++ taken.bytes) ++ further)) told
+    whole_input : (further : List ℕ) → MayFollow z further → IsToldEnding claims (unread_from (place_of x) ((x.held ++ taken.bytes) ++ further)) told
     whole_input further may =
         let parts : (x.held ++ taken.bytes) ++ further ≡ text ++ (z.held ++ further) = ap (λ t. t ++ further) taken.parts ∙ append_assoc text z.held further in
         let whole : place_of x + length ((x.held ++ taken.bytes) ++ further) ≡ z.total + length further =

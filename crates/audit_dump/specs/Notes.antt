@@ -35,12 +35,12 @@ abbrev pub names_clue : List ℕ → Item → Bool
 names_clue clue item = is_clue_occult item.header.kind && bytes_eq item.header.link.0 clue
 
 -- the number of the last of some journals that is an occult by this clue, or else this one
-abbrev pub last_from : Option ℕ → List ℕ → List Item → Option ℕ
-last_from last clue items = fold (λ so_far item. if names_clue clue item then Some item.header.jsn else so_far) last items
+abbrev pub last_named : Option ℕ → List ℕ → List Item → Option ℕ
+last_named last clue items = fold (λ so_far item. if names_clue clue item then Some item.header.jsn else so_far) last items
 
 -- the number of the last of some journals that is an occult by this clue
 abbrev pub last_occult : List ℕ → List Item → Option ℕ
-last_occult clue items = last_from None clue items
+last_occult clue items = last_named None clue items
 
 -- the clue by which the content of a journal may be hidden: that of a record
 abbrev pub record_clue : Header → Option Digest

@@ -14,7 +14,7 @@ use Rattle.dump_model.specs.Dumps.{IsNotaryEntry}
 use Rattle.audit_dump.specs.Breaks.{Tail, place_within, tail_at}
 use Rattle.audit_dump.specs.Claims.{IsLeastUnmet}
 use Rattle.audit_dump.specs.Fronts.{HasReadOn}
-use Rattle.audit_dump.specs.Walking.{MayFollow, last_from, place_of}
+use Rattle.audit_dump.specs.Walking.{MayFollow, unread_from, place_of}
 use Rattle.audit_dump.specs.declared.claims.Claim.{Claim}
 use Rattle.audit_dump.specs.declared.walking.Break.{Break}
 use Rattle.audit_dump.specs.declared.ending.Ending.{Ending}
@@ -128,7 +128,7 @@ pub record TellsEnding (claims : List Claim) (before after : SourceState) (old n
   pub read_bytes : HasReadOn before after old new bytes
   -- the end of a dump is the input's end
   pub ended : IfOk told (λ ending. new.ended ≡ true)
-  pub over : (further : List ℕ) → MayFollow new further → IsToldEnding claims (last_from (place_of old) ((old.held ++ bytes) ++ further)) told
+  pub over : (further : List ℕ) → MayFollow new further → IsToldEnding claims (unread_from (place_of old) ((old.held ++ bytes) ++ further)) told
 
 -- The same by what stops the reading, with the bytes that were read; where reading fails nothing is told. No window holds more than
 -- was read.

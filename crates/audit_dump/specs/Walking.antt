@@ -17,8 +17,8 @@ place_of w = w.total - length w.held
 
 -- What is still to be read of an input that ends with these bytes, where they stand at a place.
 -- Example: where 30 bytes stand at 70, the whole input has 100.
-abbrev pub last_from : ℕ → List ℕ → Unread
-last_from place bytes = left_from (place + length bytes) bytes
+abbrev pub unread_from : ℕ → List ℕ → Unread
+unread_from place bytes = left_from (place + length bytes) bytes
 
 -- these bytes may follow those that a window holds: any, but none once the source told its end
 abbrev pub MayFollow : Seen → List ℕ → Type 0
@@ -48,7 +48,7 @@ place_left other = 0
 
 -- an input that ends with these bytes, at this place of it, breaks so in the journal with which they begin
 abbrev pub IsBreakAt : ℕ → List ℕ → Break → Type 0
-IsBreakAt start bytes broken = (item_at (last_from start bytes) ≡ Err broken.bad) × (broken.place ≡ place_behind start broken.bad)
+IsBreakAt start bytes broken = (item_at (unread_from start bytes) ≡ Err broken.bad) × (broken.place ≡ place_behind start broken.bad)
 
 -- ---- the next journal
 

@@ -111,7 +111,7 @@ pub(crate) fn next_prepared<R: Threads + Sync, S: Source, V: Verifier>(
         return Ok(Ok(next));
     }
     match next_item(window, source) {
-        Ok(Ok(len)) => match prepare(rt, alloc, verifier, id, window.as_slice(), len) {
+        Ok(Ok(len)) => match prepare_items(rt, alloc, verifier, id, window.as_slice(), len) {
             Ok(list) => {
                 *queue = Queue::of(list);
                 match queue.next() {
@@ -127,7 +127,7 @@ pub(crate) fn next_prepared<R: Threads + Sync, S: Source, V: Verifier>(
 }
 
 // Prepares the journals with which these bytes begin, of which the first has so many.
-fn prepare<R: Threads + Sync, V: Verifier>(
+fn prepare_items<R: Threads + Sync, V: Verifier>(
     rt: &R,
     alloc: Global,
     verifier: &V,

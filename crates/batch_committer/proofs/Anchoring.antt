@@ -5,7 +5,6 @@ use Rattle.ledger_bytes.specs.declared.refusal.Refusal.{Refusal}
 use Rattle.journal_record.specs.declared.stamp.Stamp.{Stamp}
 use Rattle.script_lines.specs.declared.reply.Reply.{Reply as AnyReply}
 use Rattle.script_lines.specs.declared.reply.Reply.TheVariants as reply
-use Rattle.script_lines.specs.declared.said.Which.{Which}
 use Rattle.ledger_bytes.specs.Causes.{count_after}
 use Rattle.journal_record.specs.declared.rules.TheConstants.{NOTARY_LIMIT}
 use Rattle.time_peg.specs.Entries.{Making, NotaryState, IsStamped, HasOneMore, CountsFailures}
@@ -15,17 +14,16 @@ use Rattle.ledger_model.specs.Anchors.{stamp_of, no_stamp}
 use Rattle.ledger_model.specs.History.{History}
 use Rattle.ledger_model.specs.Judgements.{own_refusal}
 use Rattle.ledger_model.specs.Limits.{real_limits}
-use Rattle.ledger_model.specs.Outcomes.{accepted_outcome, query_of, after_judgement, with_job, anchor_outcome, judged_outcome, outcome}
+use Rattle.ledger_model.specs.Outcomes.{accepted_outcome, after_judgement, with_job, anchor_outcome, judged_outcome, outcome}
 use Rattle.ledger_model.specs.Step.{Step}
 use Rattle.ledger_model.specs.Texts.{answer_for, told_reply}
 use Rattle.ledger_model.specs.declared.answer.Answer.TheVariants.{Reply}
 use Rattle.ledger_model.specs.declared.job.Job.{Job}
-use Rattle.ledger_model.specs.declared.job.Job.TheVariants.{Refused, Append, NewMember, Anchor, Occult, OccultClue, Purge, Get, Prove, Extend, Clue, Head}
+use Rattle.ledger_model.specs.declared.job.Job.TheVariants.{Anchor}
 use Rattle.ledger_model.specs.declared.limits.Limits.{Limits}
 use Rattle.ledger_model.specs.declared.outcome.Outcome.{Outcome}
 use Rattle.ledger_model.specs.declared.outcome.Outcome.TheVariants as came
 use Rattle.ledger_model.specs.declared.outcome.Query.{Query}
-use Rattle.ledger_model.specs.declared.outcome.Query.TheVariants as query
 use Rattle.ledger_book.specs.Books as books
 use Rattle.ledger_book.proofs.ApplyLaws.{anchor_accepted}
 use Rattle.ledger_book.specs.Steps.{Applies, HasOperatorRoom, PlacesNothing}
@@ -55,7 +53,7 @@ unfolding outcome
 unstamped_judged k h step why p accepted none is = record {
   answer_is =
       ap (λ r. Reply (reply.Refused r)) (sym is)
-      ∙ sym (ap (λ o. answer_for h step (judged_outcome (own_refusal real_limits h Anchor) (anchor_outcome h o))) none ∙ ap (λ r. answer_for h step (judged_outcome r (came.Reading query.Stamp))) accepted);
+      ∙ sym (ap (λ o. answer_for h step (judged_outcome (own_refusal real_limits h Anchor) (anchor_outcome h o))) none ∙ ap (λ r. answer_for h step (judged_outcome r came.StampWanted)) accepted);
   gathers = subst (λ o. Gathers k (with_job real_limits o h Anchor)) (sym none) (subst (Gathers k) (sym (unplaced real_limits h)) (gathers_kept k h p));
 }
 
@@ -90,41 +88,6 @@ failed_not_full old e is full at = subst result_full (sym (full at) ∙ ap (λ x
 
 -- ---- by what the book told before
 
--- the job that asks for this
-abbrev job_asking : Query → Job
-job_asking query.Stamp = Anchor
-job_asking (query.Get n) = Get n
-job_asking (query.Prove n) = Prove n
-job_asking (query.Extend which m) = Extend which m
-job_asking (query.Clue clue) = Clue clue
-job_asking query.Head = Head
-
-asked_by : (job : Job) (q : Query) → query_of job ≡ Some q → job ≡ job_asking q
-asked_by (Refused refusal) q is = absurd (let no : ⊥ = cc is in no)
-asked_by (Append member clue content content_digest request by who number) q is = absurd (let no : ⊥ = cc is in no)
-asked_by (NewMember number key by) q is = absurd (let no : ⊥ = cc is in no)
-asked_by Anchor q is = let e : query.Stamp ≡ q = cc is in ap job_asking e
-asked_by (Occult target leaf given) q is = absurd (let no : ⊥ = cc is in no)
-asked_by (OccultClue clue count given) q is = absurd (let no : ⊥ = cc is in no)
-asked_by (Purge p told given) q is = absurd (let no : ⊥ = cc is in no)
-asked_by (Get n) q is = let e : query.Get n ≡ q = cc is in ap job_asking e
-asked_by (Prove n) q is = let e : query.Prove n ≡ q = cc is in ap job_asking e
-asked_by (Extend which m) q is = let e : query.Extend which m ≡ q = cc is in ap job_asking e
-asked_by (Clue clue) q is = let e : query.Clue clue ≡ q = cc is in ap job_asking e
-asked_by Head q is = let e : query.Head ≡ q = cc is in ap job_asking e
-
-pub asked_anchor : (job : Job) (q : Query) → query_of job ≡ Some q → q ≡ query.Stamp → job ≡ Anchor
-asked_anchor job q is at = asked_by job q is ∙ ap job_asking at
-
-pub asked_head : (job : Job) (q : Query) → query_of job ≡ Some q → q ≡ query.Head → job ≡ Head
-asked_head job q is at = asked_by job q is ∙ ap job_asking at
-
-pub asked_prove : (job : Job) (q : Query) (n : ℕ) → query_of job ≡ Some q → q ≡ query.Prove n → job ≡ Prove n
-asked_prove job q n is at = asked_by job q is ∙ ap job_asking at
-
-pub asked_extend : (job : Job) (q : Query) (which : Which) (m : ℕ) → query_of job ≡ Some q → q ≡ query.Extend which m → job ≡ Extend which m
-asked_extend job q which m is at = asked_by job q is ∙ ap job_asking at
-
 -- a job that was told to read wasn't refused
 accepted_by : (refusal : Option Refusal) (o : Outcome) (q : Query) → came.Reading q ≡ judged_outcome refusal o → refusal ≡ None
 accepted_by None o q is = refl
@@ -134,10 +97,10 @@ pub asked_accepted : (limits : Limits) (h : History) (job : Job) (o : Outcome) (
 unfolding outcome
 asked_accepted limits h job o q new a is = accepted_by (own_refusal limits h job) (accepted_outcome h None job) q (sym is ∙ a.outcome_is)
 
--- an anchor without a stamp asks for one, where it is accepted
-pub anchor_asks : (limits : Limits) (h : History) (job : Job) (o : Outcome) (new : books.Kept) → Applies limits None h job o new → job ≡ Anchor → own_refusal limits h job ≡ None → o ≡ came.Reading query.Stamp
+-- an anchor without a stamp wants one, where it is accepted
+pub anchor_wants : (limits : Limits) (h : History) (job : Job) (o : Outcome) (new : books.Kept) → Applies limits None h job o new → job ≡ Anchor → own_refusal limits h job ≡ None → o ≡ came.StampWanted
 unfolding outcome
-anchor_asks limits h job o new a is none =
+anchor_wants limits h job o new a is none =
     a.outcome_is ∙ ap (λ x. judged_outcome x (accepted_outcome h None job)) none ∙ ap (λ (j : Job). accepted_outcome h None j) is
 
 pub keeps_book : (k : CommitterState) (book : books.Kept) (h : History) → book ≡ k.book → Keeps k h → Keeps (record k { book = book }) h

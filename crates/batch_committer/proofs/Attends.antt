@@ -21,7 +21,8 @@ use Rattle.ledger_model.specs.Judgements.{own_refusal}
 use Rattle.ledger_model.specs.Limits.{real_limits}
 use Rattle.ledger_model.specs.Notary.{asks, Changes}
 use Rattle.ledger_model.specs.declared.job.Job.{Job}
-use Rattle.ledger_model.specs.declared.job.Job.TheVariants.{Refused, Append, NewMember, Anchor, Occult, OccultClue, Purge, Get, Prove, Extend, Clue, Head}
+use Rattle.ledger_model.specs.declared.job.Job.TheVariants.{Refused, Append, NewMember, Anchor, Occult, OccultClue, Purge, Ask}
+use Rattle.ledger_model.specs.declared.outcome.Query.TheVariants as query
 use Rattle.batch_committer.specs.Attending.{step_in, Attended, EndsAsking}
 use Rattle.batch_committer.specs.World.{CommitterState}
 
@@ -68,11 +69,7 @@ attends_other n h lane index line Anchor not_it = by_refusal (own_refusal real_l
 attends_other n h lane index line (Occult target leaf given) not_it = untouched n h lane index line (Occult target leaf given) false refl refl
 attends_other n h lane index line (OccultClue clue count given) not_it = untouched n h lane index line (OccultClue clue count given) false refl refl
 attends_other n h lane index line (Purge p told given) not_it = untouched n h lane index line (Purge p told given) false refl refl
-attends_other n h lane index line (Get m) not_it = untouched n h lane index line (Get m) false refl refl
-attends_other n h lane index line (Prove m) not_it = untouched n h lane index line (Prove m) false refl refl
-attends_other n h lane index line (Extend which m) not_it = untouched n h lane index line (Extend which m) false refl refl
-attends_other n h lane index line (Clue clue) not_it = untouched n h lane index line (Clue clue) false refl refl
-attends_other n h lane index line Head not_it = untouched n h lane index line Head false refl refl
+attends_other n h lane index line (Ask query) not_it = untouched n h lane index line (Ask query) false refl refl
 
 -- of each job but an anchor
 pub untouched_by : (n : NotaryState) (job : Job) → ((h : History) (lane index : ℕ) (line : List ℕ) → Attended n n h (step_in n n false lane index line) job) ⊎ (job ≡ Anchor)
@@ -83,21 +80,17 @@ untouched_by n Anchor = inr refl
 untouched_by n (Occult target leaf given) = inl (λ h lane index line. untouched n h lane index line (Occult target leaf given) false refl refl)
 untouched_by n (OccultClue clue count given) = inl (λ h lane index line. untouched n h lane index line (OccultClue clue count given) false refl refl)
 untouched_by n (Purge p told given) = inl (λ h lane index line. untouched n h lane index line (Purge p told given) false refl refl)
-untouched_by n (Get m) = inl (λ h lane index line. untouched n h lane index line (Get m) false refl refl)
-untouched_by n (Prove m) = inl (λ h lane index line. untouched n h lane index line (Prove m) false refl refl)
-untouched_by n (Extend which m) = inl (λ h lane index line. untouched n h lane index line (Extend which m) false refl refl)
-untouched_by n (Clue clue) = inl (λ h lane index line. untouched n h lane index line (Clue clue) false refl refl)
-untouched_by n Head = inl (λ h lane index line. untouched n h lane index line Head false refl refl)
+untouched_by n (Ask query) = inl (λ h lane index line. untouched n h lane index line (Ask query) false refl refl)
 
 -- a job that wasn't judged, where the notary wasn't used
 pub ends_untouched : (old : CommitterState) (n : NotaryState) (job : Job) → EndsAsking old n n job
 ends_untouched old n job = elim (untouched_by n job) [ inl f ↦ inl (false, λ h lane index line p. f h lane index line) | inr is ↦ inr (is, refl) ]
 
 -- the head of its list was asked for
-pub attends_head : (n m : NotaryState) (h : History) (lane index : ℕ) (line : List ℕ) → m.origin ≡ n.origin → m.entries ≡ n.entries → m.faults ≡ n.faults → Attended n m h (step_in n m false lane index line) Head
+pub attends_head : (n m : NotaryState) (h : History) (lane index : ℕ) (line : List ℕ) → m.origin ≡ n.origin → m.entries ≡ n.entries → m.faults ≡ n.faults → Attended n m h (step_in n m false lane index line) (Ask query.Head)
 attends_head n m h lane index line origin same count = record { list = record { list = same; called = unfailed }; origin = origin; count = count }
 
-pub attends_headless : (n m : NotaryState) (h : History) (lane index : ℕ) (line : List ℕ) (e : NotaryErr) → e ≡ Failed → m.origin ≡ n.origin → m.entries ≡ n.entries → CountsFailures {T = Unit {0}} (Err e) n.faults m.faults → Attended n m h (step_in n m true lane index line) Head
+pub attends_headless : (n m : NotaryState) (h : History) (lane index : ℕ) (line : List ℕ) (e : NotaryErr) → e ≡ Failed → m.origin ≡ n.origin → m.entries ≡ n.entries → CountsFailures {T = Unit {0}} (Err e) n.faults m.faults → Attended n m h (step_in n m true lane index line) (Ask query.Head)
 attends_headless n m h lane index line e is origin same count = record { list = record { list = same; called = λ failed. refl }; origin = origin; count = subst (λ x. CountsFailures {T = Unit {0}} (Err x) n.faults m.faults) is count }
 
 -- ---- a stamp

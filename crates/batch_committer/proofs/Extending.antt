@@ -18,7 +18,7 @@ use Rattle.member_book.specs.Erasures.{first_refusal}
 use Rattle.ledger_model.specs.Limits.{real_limits}
 use Rattle.ledger_model.specs.Proofs.{extend_refusal, size_refusal, list_extension}
 use Rattle.ledger_model.specs.Texts.{told_reply, extension_reply}
-use Rattle.ledger_model.specs.declared.job.Job.TheVariants.{Extend}
+use Rattle.ledger_model.specs.declared.job.Job.TheVariants.{Ask}
 use Rattle.ledger_model.specs.declared.outcome.Query.TheVariants as query
 use Rattle.proof_maker.specs.Making.{ExtendsWhich, is_fault}
 use Rattle.proof_maker.specs.declared.made.MakeErr.TheVariants.{Refused}
@@ -40,7 +40,7 @@ list_reply es k = reply_unless (size_refusal (length es) k) (extension_reply Not
 
 module _ (n m : NotaryState) (same : m.entries ≡ n.entries) (k : ℕ) (h : History) (lane index : ℕ) (line : List ℕ) where
   -- it was refused: the notary failed, or its list has no such size
-  pub refused_told : (which : Which) (why : Refusal) → own_refusal real_limits h (Extend which k) ≡ None → ExtendsWhich which h n.entries k (Err (Refused why)) → reply.Refused why ≡ told_reply h (step_in n m (is_fault why) lane index line) (query.Extend which k)
+  pub refused_told : (which : Which) (why : Refusal) → own_refusal real_limits h (Ask (query.Extend which k)) ≡ None → ExtendsWhich which h n.entries k (Err (Refused why)) → reply.Refused why ≡ told_reply h (step_in n m (is_fault why) lane index line) (query.Extend which k)
   refused_told Ledger why none is = absurd (unrefused (extend_refusal h k) why none is)
   refused_told Notary why none (inl is) =
       sym (ap (λ o. reply_unless o (extension_reply Notary k (length n.entries) (mth sha256 n.entries) (list_extension n.entries k))) is)
@@ -48,6 +48,6 @@ module _ (n m : NotaryState) (same : m.entries ≡ n.entries) (k : ℕ) (h : His
       ∙ sym (ap (λ v. cond v (reply.Refused NotaryFault) (list_reply m.entries k)) (no_fault (k == 0 || nat_lt (length n.entries) k) (length n.entries) why is))
   refused_told Notary why none (inr is) = ap (λ w. reply.Refused w) is ∙ sym (ap (λ w. cond (is_fault w) (reply.Refused NotaryFault) (list_reply m.entries k)) is)
 
-  pub refused_attended : (which : Which) (why : Refusal) → own_refusal real_limits h (Extend which k) ≡ None → ExtendsWhich which h n.entries k (Err (Refused why)) → m.origin ≡ n.origin → m.faults ≡ cond (is_fault why) (count_after n.faults) n.faults → Attended n m h (step_in n m (is_fault why) lane index line) (Extend which k)
+  pub refused_attended : (which : Which) (why : Refusal) → own_refusal real_limits h (Ask (query.Extend which k)) ≡ None → ExtendsWhich which h n.entries k (Err (Refused why)) → m.origin ≡ n.origin → m.faults ≡ cond (is_fault why) (count_after n.faults) n.faults → Attended n m h (step_in n m (is_fault why) lane index line) (Ask (query.Extend which k))
   refused_attended Ledger why none is origin count = absurd (unrefused (extend_refusal h k) why none is)
   refused_attended Notary why none x origin count = record { list = record { list = same; called = λ _. refl }; origin = origin; count = count }

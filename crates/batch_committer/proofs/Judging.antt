@@ -25,19 +25,18 @@ use Rattle.ledger_model.specs.Judgements.{own_refusal}
 use Rattle.ledger_model.specs.Lawful.{IsNext, AreNext, AllGather, gathers}
 use Rattle.ledger_model.specs.Limits.{real_limits}
 use Rattle.ledger_model.specs.Numbers.{repeated, unless_repeated}
-use Rattle.ledger_model.specs.Outcomes.{placed_journal, with_waiting, after_judgement, with_job, judged_outcome, accepted_outcome, record_outcome, outcome, placed_as, placed_with, query_of}
+use Rattle.ledger_model.specs.Outcomes.{placed_journal, with_waiting, after_judgement, with_job, judged_outcome, accepted_outcome, record_outcome, outcome, placed_as, placed_with}
 use Rattle.ledger_model.specs.Rules.{closes_before, closes_after}
 use Rattle.ledger_model.specs.Step.{Step}
 use Rattle.ledger_model.specs.Texts.{answer_for}
 use Rattle.ledger_model.specs.declared.answer.Answer.{Answer}
 use Rattle.ledger_model.specs.declared.due.Due.{Due}
 use Rattle.ledger_model.specs.declared.job.Job.{Job}
-use Rattle.ledger_model.specs.declared.job.Job.TheVariants.{Refused, Append, NewMember, Anchor, Occult, OccultClue, Purge, Get, Prove, Extend, Clue, Head}
+use Rattle.ledger_model.specs.declared.job.Job.TheVariants.{Refused, Append, NewMember, Anchor, Occult, OccultClue, Purge, Ask}
 use Rattle.ledger_model.specs.declared.limits.Limits.{Limits}
 use Rattle.ledger_model.specs.declared.outcome.Outcome.{Outcome}
 use Rattle.ledger_model.specs.declared.outcome.Outcome.TheVariants as came
 use Rattle.ledger_model.specs.declared.outcome.PlacedJournal.{PlacedJournal}
-use Rattle.ledger_model.specs.declared.outcome.Query.{Query}
 use Rattle.ledger_book.specs.Books as books
 use Rattle.ledger_book.specs.Books.{Serves, sealed_size}
 use Rattle.ledger_book.specs.Steps.{PlacesNothing, Applies}
@@ -72,11 +71,7 @@ judged_same (Some stamp) h Anchor None o none is = absurd (subst PlacesNothing i
 judged_same stamp h (Occult target leaf given) None o none is = absurd (subst PlacesNothing is none)
 judged_same stamp h (OccultClue clue count given) None o none is = absurd (subst PlacesNothing is none)
 judged_same stamp h (Purge p told given) None o none is = absurd (subst PlacesNothing is none)
-judged_same stamp h (Get n) None o none is = refl
-judged_same stamp h (Prove n) None o none is = refl
-judged_same stamp h (Extend which m) None o none is = refl
-judged_same stamp h (Clue clue) None o none is = refl
-judged_same stamp h Head None o none is = refl
+judged_same stamp h (Ask query) None o none is = refl
 
 pub same_job : (stamp : Option Stamp) (limits : Limits) (h : History) (job : Job) (o : Outcome) → PlacesNothing o → o ≡ outcome limits stamp h job → with_job limits stamp h job ≡ h
 unfolding outcome with_job
@@ -119,11 +114,7 @@ judged_as stamp h (Occult target named given) None placed is =
 judged_as stamp h (OccultClue clue count given) None placed is =
     let j = clue_occult_journal (size h) clue count given in record { accepted = refl; journal = j; header_is = placed_header placed (size h) j is; placed_is = refl }
 judged_as stamp h (Purge p told given) None placed is = let j = purge_journal h p given in record { accepted = refl; journal = j; header_is = placed_header placed (size h) j is; placed_is = refl }
-judged_as stamp h (Get n) None placed is = absurd (let no : ⊥ = cc is in no)
-judged_as stamp h (Prove n) None placed is = absurd (let no : ⊥ = cc is in no)
-judged_as stamp h (Extend which m) None placed is = absurd (let no : ⊥ = cc is in no)
-judged_as stamp h (Clue clue) None placed is = absurd (let no : ⊥ = cc is in no)
-judged_as stamp h Head None placed is = absurd (let no : ⊥ = cc is in no)
+judged_as stamp h (Ask query) None placed is = absurd (let no : ⊥ = cc is in no)
 
 pub was_placed : (stamp : Option Stamp) (limits : Limits) (h : History) (job : Job) (placed : PlacedJournal) → came.Placed placed ≡ outcome limits stamp h job → WasPlaced stamp limits h job placed
 unfolding outcome with_job
@@ -205,11 +196,7 @@ is_made stamp h (OccultClue clue count given) journal fits is =
 is_made stamp h (Purge p told given) journal fits is =
     made_as (Purge p told given) (purge_journal h p given) journal (cc is)
     (record { content = []; given = given; parts = (refl, refl); content_is = refl; who_is = refl; len = refl; few = whos_few given fits; gathers_is = λ other. absurd (true≢false other) })
-is_made stamp h (Get n) journal fits is = absurd (none-some journal is)
-is_made stamp h (Prove n) journal fits is = absurd (none-some journal is)
-is_made stamp h (Extend which m) journal fits is = absurd (none-some journal is)
-is_made stamp h (Clue clue) journal fits is = absurd (none-some journal is)
-is_made stamp h Head journal fits is = absurd (none-some journal is)
+is_made stamp h (Ask query) journal fits is = absurd (none-some journal is)
 
 -- ---- the journal in the book
 
@@ -365,22 +352,7 @@ judged_placed stamp old mid new h step job o placed answer p all none fits appli
       gathers = subst (λ o. Gathers new (with_job real_limits o h job)) (sym stamped) (subst (Gathers new) (sym w.after) (gathers_more old mid new h w.journal p m.len m.few (waits_so job h.waiting w.journal all none m.gathers_is) s limits floor u file g));
     }
 
--- a job that asks for something ends the open block first
-pub asks_closes : (job : Job) (q : Query) → query_of job ≡ Some q → closes_before job ≡ true
-asks_closes (Refused refusal) q is = absurd (let no : ⊥ = cc is in no)
-asks_closes (Append member clue content content_digest request by who number) q is = absurd (let no : ⊥ = cc is in no)
-asks_closes (NewMember number key by) q is = absurd (let no : ⊥ = cc is in no)
-asks_closes Anchor q is = refl
-asks_closes (Occult target leaf given) q is = absurd (let no : ⊥ = cc is in no)
-asks_closes (OccultClue clue count given) q is = absurd (let no : ⊥ = cc is in no)
-asks_closes (Purge p told given) q is = absurd (let no : ⊥ = cc is in no)
-asks_closes (Get n) q is = refl
-asks_closes (Prove n) q is = refl
-asks_closes (Extend which m) q is = refl
-asks_closes (Clue clue) q is = refl
-asks_closes Head q is = refl
-
--- .. and so does one whose journal is a block of its own
+-- a job whose journal is a block of its own ends the open block first
 pub alone_first : (job : Job) → closes_after job ≡ true → closes_before job ≡ true
 alone_first (Refused refusal) alone = absurd (true≢false (sym alone))
 alone_first (Append member clue content content_digest request by who number) alone = absurd (true≢false (sym alone))
@@ -389,11 +361,7 @@ alone_first Anchor alone = refl
 alone_first (Occult target leaf given) alone = refl
 alone_first (OccultClue clue count given) alone = refl
 alone_first (Purge p told given) alone = refl
-alone_first (Get n) alone = refl
-alone_first (Prove n) alone = refl
-alone_first (Extend which m) alone = refl
-alone_first (Clue clue) alone = refl
-alone_first Head alone = refl
+alone_first (Ask query) alone = refl
 
 -- from the clauses of a call
 pub on_ok_then : {T E : Type 0} {A B : Type 0} (result : Result T E) → (A → B) → OnOk result A → OnOk result B

@@ -102,6 +102,10 @@ pub record World : Type 0 where
 abbrev pub world : CommitterState → Pair → SinkState → World
 world kept disks sink = record { kept = kept; disks = disks; sink = sink }
 
+-- the world of a committer that keeps this, by what its two disks and its sink tell
+abbrev pub world_of : {D K : Type 0} → (D → DiskState) → (K → SinkState) → CommitterState → D → D → K → World
+world_of disk sink kept a b k = world kept (pair (disk a) (disk b)) (sink k)
+
 -- ---- what a call asks for
 
 -- the open file reads as the calls left it: the length that is told reaches behind its tail gate, and that gate is shut

@@ -48,8 +48,7 @@ pub(crate) fn commit<D: Disk>(
 
 // Commits the blocks of a group in the open file, whose disk this is.
 fn commit_in<D: Disk>(twin: &mut Twin, file: &mut D, bytes: &[u8]) -> Result<(), CommitErr>
-    requires { ReadsAsLeft D.tells (gate_of (file_of twin.old))
-        (D.state file.old) }
+    requires { ReadsAsLeft D.tells (gate_of (file_of twin.old)) (D.state file.old) }
     ensures ok { OnOk result (IsTrue D.tells → (group : List (List ℕ)) → IsGroupOf group bytes.now
         → (front : List ℕ) (blocks : List (List ℕ))
         → IsFileOf front blocks (D.state file.old).bytes.seen
@@ -58,8 +57,7 @@ fn commit_in<D: Disk>(twin: &mut Twin, file: &mut D, bytes: &[u8]) -> Result<(),
     ensures ends { OnOk result (IsTrue D.tells
         → length (D.state file.old).bytes.seen ≡ gate_of (file_of twin.old) + 1
         → length (D.state file.new).bytes.seen ≡ gate_of (file_of twin.new) + 1) }
-    ensures reads { OnOk result (ReadsAsLeft D.tells (gate_of (file_of twin.new))
-        (D.state file.new)) }
+    ensures reads { OnOk result (ReadsAsLeft D.tells (gate_of (file_of twin.new)) (D.state file.new)) }
     ensures gate { OnOk result (gate_of (file_of twin.new)
         ≡ gate_of (file_of twin.old) + 1 + length bytes.now) }
     ensures head { OnOk result (IsTrue D.tells

@@ -6,7 +6,7 @@ ghost use Rattle.ledger_model.specs.History.{History, id, close};
 ghost use Rattle.ledger_open.specs.Heads.{edition_in};
 ghost use Rattle.twin_file.specs.Which.{in_a_of, file_of, copy_of};
 ghost use Rattle.batch_committer.specs.Attending.{step_in, FailsAtMostOnce, TakesJob, EndsTaking};
-ghost use Rattle.batch_committer.specs.World.{pair, world, first_kept, Fits, HasRoom, Keeps, Goes, EndsOnTheWay};
+ghost use Rattle.batch_committer.specs.World.{world_of, first_kept, Fits, HasRoom, Keeps, Goes, EndsOnTheWay};
 
 use crate::CommitErr;
 use crate::taking::Taking;
@@ -92,25 +92,22 @@ impl Committer {
         notary: &mut N,
         item: Prepared,
     ) -> Result<(), CommitErr>
-        requires fits { self.old.ended ≡ false → Fits D.tells (world self.old.kept
-            (pair (D.state a.old) (D.state b.old)) (K.state sink.old)) }
+        requires fits { self.old.ended ≡ false
+            → Fits D.tells (world_of D.state K.state self.old.kept a.old b.old sink.old) }
         requires room { self.old.ended ≡ false → HasRoom self.old.kept }
-
         // The line plays no part once its job is there.
         ensures ok { OnOk result ((failed : Bool) × ((line : List ℕ) → TakesJob D.tells
-            (world self.old.kept (pair (D.state a.old) (D.state b.old)) (K.state sink.old))
-            (world self.new.kept (pair (D.state a.new) (D.state b.new)) (K.state sink.new))
+            (world_of D.state K.state self.old.kept a.old b.old sink.old)
+            (world_of D.state K.state self.new.kept a.new b.new sink.new)
             (N.state notary.old) (N.state notary.new)
             (step_in (N.state notary.old) (N.state notary.new) failed item.lane item.index line)
             item.job)) }
-        ensures fits { OnOk result (Fits D.tells (world self.new.kept
-            (pair (D.state a.new) (D.state b.new)) (K.state sink.new))) }
+        ensures fits { OnOk result (Fits D.tells (world_of D.state K.state self.new.kept a.new b.new sink.new)) }
         ensures room { OnOk result (HasRoom self.new.kept) }
         ensures err { IfErr result (λ end. self.old.ended ≡ false → EndsTaking D.tells
-            (world self.old.kept (pair (D.state a.old) (D.state b.old)) (K.state sink.old))
-            (world self.new.kept (pair (D.state a.new) (D.state b.new)) (K.state sink.new))
+            (world_of D.state K.state self.old.kept a.old b.old sink.old)
+            (world_of D.state K.state self.new.kept a.new b.new sink.new)
             (N.state notary.old) (N.state notary.new) item.lane item.index item.job end) }
-
         // Whatever the disks tell.
         ensures once { FailsAtMostOnce (N.state notary.old) (N.state notary.new) }
         ensures closed { (result ≡ Err CommitErr.Closed) ↔ (self.old.ended ≡ true) }
@@ -134,21 +131,19 @@ impl Committer {
         b: &mut D,
         sink: &mut K,
     ) -> Result<(), CommitErr>
-        requires { self.old.ended ≡ false → Fits D.tells (world self.old.kept
-            (pair (D.state a.old) (D.state b.old)) (K.state sink.old)) }
+        requires { self.old.ended ≡ false → Fits D.tells (world_of D.state K.state self.old.kept a.old b.old sink.old) }
         ensures ok { OnOk result (Goes D.tells
-            (world self.old.kept (pair (D.state a.old) (D.state b.old)) (K.state sink.old))
+            (world_of D.state K.state self.old.kept a.old b.old sink.old)
             close (λ h. [])
-            (world self.new.kept (pair (D.state a.new) (D.state b.new)) (K.state sink.new))) }
-        ensures fits { OnOk result (Fits D.tells (world self.new.kept
-            (pair (D.state a.new) (D.state b.new)) (K.state sink.new))) }
+            (world_of D.state K.state self.new.kept a.new b.new sink.new)) }
+        ensures fits { OnOk result (Fits D.tells (world_of D.state K.state self.new.kept a.new b.new sink.new)) }
         ensures room { OnOk result (HasRoom self.new.kept) }
         ensures dues { OnOk result (self.new.kept.dues ≡ []) }
         ensures none { OnOk result (self.new.kept.ended ≡ 0) }
         ensures err { IfErr result (λ end. self.old.ended ≡ false → EndsOnTheWay D.tells
-            (world self.old.kept (pair (D.state a.old) (D.state b.old)) (K.state sink.old))
+            (world_of D.state K.state self.old.kept a.old b.old sink.old)
             close (λ h. []) end
-            (world self.new.kept (pair (D.state a.new) (D.state b.new)) (K.state sink.new))) }
+            (world_of D.state K.state self.new.kept a.new b.new sink.new)) }
         ensures closed { (result ≡ Err CommitErr.Closed) ↔ (self.old.ended ≡ true) }
         ensures ended { self.new.ended ≡ is_err result }
         ensures same { self.old.ended ≡ true → self.new ≡ self.old }
@@ -172,20 +167,18 @@ impl Committer {
         b: &mut D,
         sink: &mut K,
     ) -> Result<(), CommitErr>
-        requires { self.old.ended ≡ false → Fits D.tells (world self.old.kept
-            (pair (D.state a.old) (D.state b.old)) (K.state sink.old)) }
+        requires { self.old.ended ≡ false → Fits D.tells (world_of D.state K.state self.old.kept a.old b.old sink.old) }
         ensures ok { OnOk result (Goes D.tells
-            (world self.old.kept (pair (D.state a.old) (D.state b.old)) (K.state sink.old))
+            (world_of D.state K.state self.old.kept a.old b.old sink.old)
             (λ h. h) (λ h. [])
-            (world self.new.kept (pair (D.state a.new) (D.state b.new)) (K.state sink.new))) }
-        ensures fits { OnOk result (Fits D.tells (world self.new.kept
-            (pair (D.state a.new) (D.state b.new)) (K.state sink.new))) }
+            (world_of D.state K.state self.new.kept a.new b.new sink.new)) }
+        ensures fits { OnOk result (Fits D.tells (world_of D.state K.state self.new.kept a.new b.new sink.new)) }
         ensures room { OnOk result (HasRoom self.old.kept → HasRoom self.new.kept) }
         ensures none { OnOk result (self.new.kept.ended ≡ 0) }
         ensures err { IfErr result (λ end. self.old.ended ≡ false → EndsOnTheWay D.tells
-            (world self.old.kept (pair (D.state a.old) (D.state b.old)) (K.state sink.old))
+            (world_of D.state K.state self.old.kept a.old b.old sink.old)
             (λ h. h) (λ h. []) end
-            (world self.new.kept (pair (D.state a.new) (D.state b.new)) (K.state sink.new))) }
+            (world_of D.state K.state self.new.kept a.new b.new sink.new)) }
         ensures closed { (result ≡ Err CommitErr.Closed) ↔ (self.old.ended ≡ true) }
         ensures ended { self.new.ended ≡ is_err result }
         ensures same { self.old.ended ≡ true → self.new ≡ self.old }

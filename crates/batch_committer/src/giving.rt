@@ -1,8 +1,7 @@
 //! How what an occult hides or a purge takes is given up in the files, for good.
 
 ghost use Rattle.std.specs.Prelude.{◌≡◌, None, IfOk, IfErr, OnOk, OnErr};
-ghost use Rattle.block_file.specs.FileView.{gate_of};
-ghost use Rattle.twin_file.specs.Places.{HasTail};
+ghost use Rattle.block_file.specs.FileView.{gate_of, HasTail};
 ghost use Rattle.twin_file.specs.Twin.{open_of};
 ghost use Rattle.twin_file.specs.Which.{in_a_of, file_of, copy_of};
 ghost use Rattle.ledger_open.specs.Cutting.{IsPrepared};

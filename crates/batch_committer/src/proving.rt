@@ -6,7 +6,7 @@ ghost use Rattle.ledger_model.specs.History.{History};
 ghost use Rattle.ledger_model.specs.Judgements.{own_refusal};
 ghost use Rattle.ledger_model.specs.Limits.{real_limits};
 ghost use Rattle.ledger_model.specs.Texts.{told_reply, told_mark};
-ghost use Rattle.ledger_model.specs.declared.job.Job.TheVariants.{Prove, Extend};
+ghost use Rattle.ledger_model.specs.declared.job.Job.TheVariants.{Ask};
 ghost use Rattle.ledger_model.specs.declared.outcome.Query.TheVariants as query;
 ghost use Rattle.batch_committer.specs.Attending.{step_in, Attended, FailsAtMostOnce};
 
@@ -27,13 +27,13 @@ pub(crate) fn proof_of<N: Notary>(
     requires settled { book.now.sealed ≡ book.now.size }
     ensures told { IfOk result (λ reply. (failed : Bool)
         × ((h : History) (lane index : ℕ) (line : List ℕ) → Serves book.now h
-        → own_refusal real_limits h (Prove n) ≡ None
+        → own_refusal real_limits h (Ask (query.Prove n)) ≡ None
         → (let step = step_in (N.state notary.old) (N.state notary.new) failed lane index line in
         (reply ≡ told_reply h step (query.Prove n))
-        × Attended (N.state notary.old) (N.state notary.new) h step (Prove n)))) }
+        × Attended (N.state notary.old) (N.state notary.new) h step (Ask (query.Prove n))))) }
     ensures err { OnErr result ((h : History) (lane index : ℕ) (line : List ℕ)
         → Attended (N.state notary.old) (N.state notary.new) h
-        (step_in (N.state notary.old) (N.state notary.new) false lane index line) (Prove n)) }
+        (step_in (N.state notary.old) (N.state notary.new) false lane index line) (Ask (query.Prove n))) }
     ensures once { FailsAtMostOnce (N.state notary.old) (N.state notary.new) }
 {
     match prove(alloc, book, notary, n) {
@@ -76,13 +76,14 @@ pub(crate) fn extension_of<N: Notary>(
     requires settled { book.now.sealed ≡ book.now.size }
     ensures told { IfOk result (λ reply. (failed : Bool)
         × ((h : History) (lane index : ℕ) (line : List ℕ) → Serves book.now h
-        → own_refusal real_limits h (Extend which m) ≡ None
+        → own_refusal real_limits h (Ask (query.Extend which m)) ≡ None
         → (let step = step_in (N.state notary.old) (N.state notary.new) failed lane index line in
         (reply ≡ told_reply h step (query.Extend which m))
-        × Attended (N.state notary.old) (N.state notary.new) h step (Extend which m)))) }
+        × Attended (N.state notary.old) (N.state notary.new) h step (Ask (query.Extend which m))))) }
     ensures err { OnErr result ((h : History) (lane index : ℕ) (line : List ℕ)
         → Attended (N.state notary.old) (N.state notary.new) h
-        (step_in (N.state notary.old) (N.state notary.new) false lane index line) (Extend which m)) }
+        (step_in (N.state notary.old) (N.state notary.new) false lane index line)
+        (Ask (query.Extend which m))) }
     ensures once { FailsAtMostOnce (N.state notary.old) (N.state notary.new) }
 {
     match extend(alloc, book, notary, which, m) {

@@ -4,7 +4,7 @@ ghost use Rattle.std.specs.Prelude.{◌≡◌, [], Bool, ℕ, List, IfOk};
 ghost use Rattle.ledger_model.specs.History.{History};
 ghost use Rattle.ledger_model.specs.Texts.{told_reply};
 ghost use Rattle.ledger_model.specs.Step.{Step};
-ghost use Rattle.ledger_model.specs.declared.job.Job.TheVariants.{Head};
+ghost use Rattle.ledger_model.specs.declared.job.Job.TheVariants.{Ask};
 ghost use Rattle.batch_committer.specs.Attending.{step_in, Attended, FailsAtMostOnce};
 ghost use Rattle.ledger_model.specs.declared.outcome.Query.TheVariants as query;
 ghost use Rattle.ledger_book.specs.Books.{Serves};
@@ -32,7 +32,7 @@ pub(crate) fn head_reply<N: Notary>(book: &Book, notary: &mut N) -> Reply
         × ((h : History) (lane index : ℕ) (line : List ℕ) → Serves book.now h → h.waiting ≡ []
         → (let step = step_in (N.state notary.old) (N.state notary.new) failed lane index line in
         (result ≡ told_reply h step query.Head)
-        × Attended (N.state notary.old) (N.state notary.new) h step Head)) }
+        × Attended (N.state notary.old) (N.state notary.new) h step (Ask query.Head))) }
     ensures once { FailsAtMostOnce (N.state notary.old) (N.state notary.new) }
 {
     match notary.head() {

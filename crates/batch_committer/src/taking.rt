@@ -20,7 +20,7 @@ ghost use Rattle.twin_file.specs.Which.{in_a_of, file_of, copy_of};
 ghost use Rattle.batch_committer.specs.Read.{WereRead, NoneFailed, ReadingEnds};
 ghost use Rattle.batch_committer.specs.Attending.{step_in, FailsAtMostOnce, TakesJob, EndsTaking, TakesIn, EndsIn, JudgedBy, EndsAsking};
 ghost use Rattle.batch_committer.specs.Steps.{HasParts, IsGathered, KeepsFile, KeepsRest, HasGrown, StaysGathered, StaysInOrder};
-ghost use Rattle.batch_committer.specs.World.{Pair, pair, world, first_kept, Fits, HasRoom, Keeps, Holds, Goes, EndsOnTheWay};
+ghost use Rattle.batch_committer.specs.World.{Pair, pair, world, world_of, first_kept, Fits, HasRoom, Keeps, Holds, Goes, EndsOnTheWay};
 
 use crate::CommitErr;
 use crate::commit::commit;
@@ -38,7 +38,7 @@ use ledger_disk::Disk;
 use ledger_io::{Sink, write_all};
 use ledger_model::{Answer, Due};
 use ledger_open::Opened;
-use ledger_open::purging::{let_go, prepare};
+use ledger_open::purging::{let_go, prepare_purge};
 use script_lines::Reply;
 use std::alloc::Global;
 use std::marker::Model;
@@ -157,21 +157,19 @@ impl Taking {
         notary: &mut N,
         item: &Prepared,
     ) -> Result<(), CommitErr>
-        requires fits { Fits D.tells (world self.old (pair (D.state a.old) (D.state b.old))
-            (K.state sink.old)) }
+        requires fits { Fits D.tells (world_of D.state K.state self.old a.old b.old sink.old) }
         requires room { HasRoom self.old }
         ensures ok { OnOk result ((failed : Bool) × ((line : List ℕ) → TakesJob D.tells
-            (world self.old (pair (D.state a.old) (D.state b.old)) (K.state sink.old))
-            (world self.new (pair (D.state a.new) (D.state b.new)) (K.state sink.new))
+            (world_of D.state K.state self.old a.old b.old sink.old)
+            (world_of D.state K.state self.new a.new b.new sink.new)
             (N.state notary.old) (N.state notary.new)
             (step_in (N.state notary.old) (N.state notary.new) failed item.now.lane item.now.index line)
             item.now.job)) }
-        ensures fits { OnOk result (Fits D.tells (world self.new
-            (pair (D.state a.new) (D.state b.new)) (K.state sink.new))) }
+        ensures fits { OnOk result (Fits D.tells (world_of D.state K.state self.new a.new b.new sink.new)) }
         ensures room { OnOk result (HasRoom self.new) }
         ensures err { IfErr result (λ end. EndsTaking D.tells
-            (world self.old (pair (D.state a.old) (D.state b.old)) (K.state sink.old))
-            (world self.new (pair (D.state a.new) (D.state b.new)) (K.state sink.new))
+            (world_of D.state K.state self.old a.old b.old sink.old)
+            (world_of D.state K.state self.new a.new b.new sink.new)
             (N.state notary.old) (N.state notary.new) item.now.lane item.now.index item.now.job end) }
         ensures once { FailsAtMostOnce (N.state notary.old) (N.state notary.new) }
     {
@@ -189,20 +187,18 @@ impl Taking {
         b: &mut D,
         sink: &mut K,
     ) -> Result<(), CommitErr>
-        requires fits { Fits D.tells (world self.old (pair (D.state a.old) (D.state b.old))
-            (K.state sink.old)) }
+        requires fits { Fits D.tells (world_of D.state K.state self.old a.old b.old sink.old) }
         ensures ok { OnOk result (Goes D.tells
-            (world self.old (pair (D.state a.old) (D.state b.old)) (K.state sink.old))
+            (world_of D.state K.state self.old a.old b.old sink.old)
             close (λ h. [])
-            (world self.new (pair (D.state a.new) (D.state b.new)) (K.state sink.new))) }
-        ensures fits { OnOk result (Fits D.tells (world self.new
-            (pair (D.state a.new) (D.state b.new)) (K.state sink.new))) }
+            (world_of D.state K.state self.new a.new b.new sink.new)) }
+        ensures fits { OnOk result (Fits D.tells (world_of D.state K.state self.new a.new b.new sink.new)) }
         ensures empty { OnOk result ((self.new.book.size ≡ self.new.book.sealed)
             × (self.new.dues ≡ []) × (self.new.ended ≡ 0)) }
         ensures err { IfErr result (λ end. EndsOnTheWay D.tells
-            (world self.old (pair (D.state a.old) (D.state b.old)) (K.state sink.old))
+            (world_of D.state K.state self.old a.old b.old sink.old)
             close (λ h. []) end
-            (world self.new (pair (D.state a.new) (D.state b.new)) (K.state sink.new))) }
+            (world_of D.state K.state self.new a.new b.new sink.new)) }
     {
         let waiting = self.unsealed();
         if waiting == 0 {
@@ -217,7 +213,7 @@ impl Taking {
             due,
         )?;
         self.block.begin_next()?;
-        let purge = prepare(self.alloc, &self.opened.book, &self.opened.places)?;
+        let purge = prepare_purge(self.alloc, &self.opened.book, &self.opened.places)?;
         // All memory is taken: from here on only a disk or the sink fails, so no block that stands is left without its
         // receipts for want of memory. They come behind both syncs, and behind what their journal gives up.
         commit(&mut self.opened.twin, a, b, self.block.ended())?;
@@ -252,22 +248,20 @@ impl Taking {
         b: &mut D,
         sink: &mut K,
     ) -> Result<(), CommitErr>
-        requires fits { Fits D.tells (world self.old (pair (D.state a.old) (D.state b.old))
-            (K.state sink.old)) }
+        requires fits { Fits D.tells (world_of D.state K.state self.old a.old b.old sink.old) }
         ensures ok { OnOk result (Goes D.tells
-            (world self.old (pair (D.state a.old) (D.state b.old)) (K.state sink.old))
+            (world_of D.state K.state self.old a.old b.old sink.old)
             (λ h. h) (λ h. [])
-            (world self.new (pair (D.state a.new) (D.state b.new)) (K.state sink.new))) }
-        ensures fits { OnOk result (Fits D.tells (world self.new
-            (pair (D.state a.new) (D.state b.new)) (K.state sink.new))) }
+            (world_of D.state K.state self.new a.new b.new sink.new)) }
+        ensures fits { OnOk result (Fits D.tells (world_of D.state K.state self.new a.new b.new sink.new)) }
         ensures same { OnOk result ((self.new.book ≡ self.old.book) × (self.new.ended ≡ 0)) }
         ensures room { OnOk result (HasRoom self.old → HasRoom self.new) }
         ensures empty { OnOk result (self.old.book.size ≡ self.old.book.sealed
             → self.new.dues ≡ []) }
         ensures err { IfErr result (λ end. EndsOnTheWay D.tells
-            (world self.old (pair (D.state a.old) (D.state b.old)) (K.state sink.old))
+            (world_of D.state K.state self.old a.old b.old sink.old)
             (λ h. h) (λ h. []) end
-            (world self.new (pair (D.state a.new) (D.state b.new)) (K.state sink.new))) }
+            (world_of D.state K.state self.new a.new b.new sink.new)) }
     {
         self.spell_rest()?;
         self.commit_ended(a, b)?;
@@ -359,22 +353,20 @@ impl Taking {
         sink: &mut K,
         job: &Job,
     ) -> Result<(), CommitErr>
-        requires fits { Fits D.tells (world self.old (pair (D.state a.old) (D.state b.old))
-            (K.state sink.old)) }
+        requires fits { Fits D.tells (world_of D.state K.state self.old a.old b.old sink.old) }
         requires room { HasRoom self.old }
         ensures ok { OnOk result (Goes D.tells
-            (world self.old (pair (D.state a.old) (D.state b.old)) (K.state sink.old))
+            (world_of D.state K.state self.old a.old b.old sink.old)
             (λ h. judged_at h job.now) (λ h. [])
-            (world self.new (pair (D.state a.new) (D.state b.new)) (K.state sink.new))) }
-        ensures fits { OnOk result (Fits D.tells (world self.new
-            (pair (D.state a.new) (D.state b.new)) (K.state sink.new))) }
+            (world_of D.state K.state self.new a.new b.new sink.new)) }
+        ensures fits { OnOk result (Fits D.tells (world_of D.state K.state self.new a.new b.new sink.new)) }
         ensures room { OnOk result (HasRoom self.new) }
         ensures settled { OnOk result (closes_before job.now ≡ true
             → (self.new.book.size ≡ self.new.book.sealed) × (self.new.ended ≡ 0)) }
         ensures err { IfErr result (λ end. EndsOnTheWay D.tells
-            (world self.old (pair (D.state a.old) (D.state b.old)) (K.state sink.old))
+            (world_of D.state K.state self.old a.old b.old sink.old)
             (λ h. judged_at h job.now) (λ h. []) end
-            (world self.new (pair (D.state a.new) (D.state b.new)) (K.state sink.new))) }
+            (world_of D.state K.state self.new a.new b.new sink.new)) }
     {
         if job.closes_before() {
             self.flush(a, b, sink)
@@ -392,20 +384,18 @@ impl Taking {
         sink: &mut K,
         job: &Job,
     ) -> Result<(), CommitErr>
-        requires fits { Fits D.tells (world self.old (pair (D.state a.old) (D.state b.old))
-            (K.state sink.old)) }
+        requires fits { Fits D.tells (world_of D.state K.state self.old a.old b.old sink.old) }
         requires gathers { closes_after job.now ≡ false → OpenGathers self.old.book }
         ensures ok { OnOk result (Goes D.tells
-            (world self.old (pair (D.state a.old) (D.state b.old)) (K.state sink.old))
+            (world_of D.state K.state self.old a.old b.old sink.old)
             (settled_history job.now) (λ h. [])
-            (world self.new (pair (D.state a.new) (D.state b.new)) (K.state sink.new))) }
-        ensures fits { OnOk result (Fits D.tells (world self.new
-            (pair (D.state a.new) (D.state b.new)) (K.state sink.new))) }
+            (world_of D.state K.state self.new a.new b.new sink.new)) }
+        ensures fits { OnOk result (Fits D.tells (world_of D.state K.state self.new a.new b.new sink.new)) }
         ensures room { OnOk result (HasRoom self.new) }
         ensures err { IfErr result (λ end. EndsOnTheWay D.tells
-            (world self.old (pair (D.state a.old) (D.state b.old)) (K.state sink.old))
+            (world_of D.state K.state self.old a.old b.old sink.old)
             (settled_history job.now) (λ h. []) end
-            (world self.new (pair (D.state a.new) (D.state b.new)) (K.state sink.new))) }
+            (world_of D.state K.state self.new a.new b.new sink.new)) }
     {
         if job.closes_after() {
             return self.flush(a, b, sink);
@@ -556,8 +546,8 @@ impl Taking {
                 leaf,
                 stamp: None,
             }),
+            Outcome::StampWanted => self.anchor(notary),
             Outcome::Reading(query) => match query {
-                Query::Stamp => self.anchor(notary),
                 Query::Head => Ok(Answer::Reply(head_reply(&self.opened.book, notary))),
                 Query::Get { n } => Ok(Answer::Reply(self.get(a, b, n)?)),
                 Query::Prove { n } => {
@@ -652,12 +642,7 @@ impl Taking {
             Job::Occult { given, .. } | Job::OccultClue { given, .. } | Job::Purge { given, .. } =>
                 { self.gather(header, &[], given.as_slice()) }
             Job::Anchor => self.gather(header, &[], &[]),
-            Job::Refused(_)
-            | Job::Get { .. }
-            | Job::Prove { .. }
-            | Job::Extend { .. }
-            | Job::Clue { .. }
-            | Job::Head => Ok(()),
+            Job::Refused(_) | Job::Ask(_) => Ok(()),
         }
     }
 

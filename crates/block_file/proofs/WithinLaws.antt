@@ -121,9 +121,6 @@ wider at n b k old new low high out =
 further : (at n : ℕ) (old mid new : List ℕ) → Outside at n old mid → Outside at n mid new → Outside at n old new
 further at n old mid new x y = record { size = y.size ∙ x.size; before = y.before ∙ x.before; after = y.after ∙ x.after }
 
-pub within_same : (at n : ℕ) (s : State) → ChangesWithin at n s s
-within_same at n s = record { seen = same_outside at n s.seen; images = λ image left. (image, left, same_outside at n image) }
-
 pub within_may : (at n b k : ℕ) (old mid new : State) → MayLeave mid mid.seen → ChangesWithin at n old mid → at ≤ b → b + k ≤ at + n → at + n ≤ length old.seen → MayHaveWritten b k mid new → ChangesWithin at n old new
 within_may at n b k old mid new seen within low high long may = record {
   seen = outside_may at n b k old.seen mid new within.seen low high long may;

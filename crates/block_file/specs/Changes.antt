@@ -1,9 +1,14 @@
--- What a commit does to a file, and the clearing of a range.
-use Rattle.std.specs.Prelude.{◌≡◌, ◌⊎◌, ℕ, ◌+◌, List, [], ◌∷◌, ◌++◌, length, take, replicate, Bool, IsTrue}
+-- What a commit does to a file, a piece that is added to one, and the clearing of a range; and what is told of the block at a place.
+use Rattle.std.specs.Prelude.{◌≡◌, ◌⊎◌, ℕ, ◌+◌, List, [], ◌∷◌, ◌++◌, length, take, replicate, Bool, IsTrue, Option, Result}
 use Rattle.ledger_disk.specs.Disk.{State, MayLeave}
 use Rattle.ledger_disk.specs.Guards.{Outside}
-use Rattle.block_file.specs.File.{IsFileOf, HasGroup, IsSettled, IsShutAt, tail_of, with_content}
+use Rattle.journal_record.specs.Blocks.{block_bytes}
+use Rattle.journal_record.specs.Entry.{Entry}
+use Rattle.block_file.specs.Blocks.{AreBlock, GivesBlock, GivesEnd}
+use Rattle.block_file.specs.File.{IsFileOf, HasGroup, IsSettled, IsShutAt, open_blocks, tail_of, whole_file, with_content}
 use Rattle.block_file.specs.FileView.{gate_of}
+use Rattle.block_file.specs.declared.block.BlockAt.{BlockAt}
+use Rattle.block_file.specs.declared.failure.FileErr.{FileErr}
 use Rattle.block_file.specs.declared.file.BlockFile.{BlockFile}
 
 -- The blocks of this group were added behind the tail gate, in their order, and each image has all of them. The file's head
@@ -21,6 +26,27 @@ pub record AddsGroup (tells : Bool) (file file_new : BlockFile) (group : List (L
 -- This block was added behind the tail gate, and each image has it. The file's head stays.
 abbrev pub AddsBlock : Bool → BlockFile → BlockFile → List ℕ → State → State → Type 0
 AddsBlock tells file file_new block old new = AddsGroup tells file file_new (block ∷ []) old new
+
+-- where a piece is blocks, each with its gate, they were added behind those of a file that is built
+abbrev pub AddsBlocks : ℕ → List ℕ → List ℕ → List ℕ → Type 0
+AddsBlocks at piece old new =
+    (front : List ℕ) (blocks more : List (List ℕ)) → old ≡ whole_file front blocks → tail_of front blocks ≡ at → piece ≡ open_blocks more
+    → new ≡ whole_file front (blocks ++ more)
+
+-- whatever bytes a piece is, it stands over the tail gate of a file that ended with it, and a gate behind it
+abbrev pub AddsBytes : ℕ → List ℕ → List ℕ → List ℕ → Type 0
+AddsBytes at piece old new = length old ≡ at + 1 → new ≡ take at old ++ piece ++ 0 ∷ []
+
+-- the block that stands at this place is told, where its first journal has this number
+abbrev pub GivesThere : ℕ → List ℕ → ℕ → Result (Option BlockAt) FileErr → Type 0
+GivesThere at bytes first told =
+    (front : List ℕ) (before after : List (List ℕ)) (root : List ℕ) (es : List Entry)
+    → IsFileOf front (before ++ block_bytes root es ∷ after) bytes → tail_of front before ≡ at → length root ≡ 32 → AreBlock first es
+    → GivesBlock at root es told
+
+-- no block is told at this place, where the blocks end there
+abbrev pub GivesNone : ℕ → List ℕ → Result (Option BlockAt) FileErr → Type 0
+GivesNone at bytes told = (front : List ℕ) (blocks : List (List ℕ)) → IsFileOf front blocks bytes → tail_of front blocks ≡ at → GivesEnd told
 
 -- where nothing was pending, an image has all blocks of the group, in their order, or none of them
 abbrev pub MayAddGroup : ℕ → List (List ℕ) → State → State → Type 0

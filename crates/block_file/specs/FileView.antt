@@ -1,10 +1,14 @@
 -- What a `BlockFile` shows.
-use Rattle.std.specs.Prelude.{◌≡◌, ℕ, List}
+use Rattle.std.specs.Prelude.{◌≡◌, ℕ, ◌+◌, ◌≤◌, List, Option, IsSomeAnd}
 use Rattle.block_file.specs.declared.file.BlockFile.{BlockFile}
 
 -- where the gate of the next block stands
 abbrev pub gate_of : BlockFile → ℕ
 gate_of file = file.at
+
+-- the length that is told reaches behind the file's tail gate
+abbrev pub HasTail : Option ℕ → BlockFile → Type 0
+HasTail told file = IsSomeAnd told (λ n. gate_of file + 1 ≤ n)
 
 -- how long the base of an open file is
 abbrev pub base_len_of : BlockFile → ℕ

@@ -3,10 +3,9 @@
 ghost use Rattle.std.specs.Prelude.{◌≡◌, ◌≢◌, ◌⊎◌, ◌+◌, ◌^◌, ◌<◌, ◌≤◌, ◌++◌, [], ◌∷◌, ℕ, List, length, get_or, take, drop, replicate, IsTrue, IfSome, IfNone, IsSomeAnd, Some, IfOk, IfErr, OnOk, OnErr};
 ghost use Rattle.ledger_disk.specs.Disk.{MayLeave, settled_state, overlay, KeepsLength};
 ghost use Rattle.block_file.specs.Head.{Counts, CountsAlone, CountsTwoAlone, digest_of, front_of, IsShut, IsHead, IsResumeErr, IsBaseErr};
-ghost use Rattle.block_file.specs.Blocks.{AreBlock, IsRead, IsNextBlock, GivesBlock, GivesEnd};
-ghost use Rattle.journal_record.specs.Blocks.{block_bytes};
+ghost use Rattle.block_file.specs.Blocks.{AreBlock, IsRead, IsNextBlock};
 ghost use Rattle.journal_record.specs.Entry.{Entry};
-ghost use Rattle.block_file.specs.File.{IsFileOf, IsGroupOf, IsSettled, IsShutAt, IsZeros, IsVeiled, IsScrapOf, tail_of, whole_file, open_blocks};
+ghost use Rattle.block_file.specs.File.{IsFileOf, IsGroupOf, IsSettled, IsShutAt, IsZeros, IsVeiled, IsScrapOf, tail_of, whole_file};
 
 use crate::copying::put_copy;
 use crate::head::{base_digest, check_form, read_fields};
@@ -34,8 +33,8 @@ pub struct BlockFile {
 }
 
 impl BlockFile {
-    ghost use Rattle.block_file.specs.Changes.{AddsBlock, AddsGroup, ChangesWithin, KeepsOutside, MayAddBlock, MayAddGroup, ZerosContent};
-    ghost use Rattle.block_file.specs.FileView.{gate_of, base_len_of, base_digest_of, KeepsBase};
+    ghost use Rattle.block_file.specs.Changes.{AddsBlock, AddsBlocks, AddsBytes, AddsGroup, ChangesWithin, GivesNone, GivesThere, KeepsOutside, MayAddBlock, MayAddGroup, ZerosContent};
+    ghost use Rattle.block_file.specs.FileView.{gate_of, base_len_of, base_digest_of, HasTail, KeepsBase};
 
     /// What the head of a file tells, and None where the file is shut. Of an open file the magic is looked at first,
     /// then the version.
@@ -111,7 +110,7 @@ impl BlockFile {
     /// Adds a block, given without its gate, to a file that [`BlockFile::create`] made and that is still shut.
     #[tactic(auto, using(crate::proofs::VeilLaws::veiled_shut))]
     pub fn put_block<D: Disk>(&mut self, disk: &mut D, block: &[u8]) -> Result<(), FileErr>
-        requires length { IsSomeAnd (D.state disk.old).told (λ n. gate_of self.old + 1 ≤ n) }
+        requires length { HasTail (D.state disk.old).told self.old }
         ensures seen { OnOk result (IsTrue D.tells → (front : List ℕ) (blocks : List (List ℕ))
             → (D.state disk.old).bytes.seen ≡ whole_file front blocks
             → tail_of front blocks ≡ gate_of self.old
@@ -125,8 +124,7 @@ impl BlockFile {
         ensures place { OnOk result (gate_of self.new ≡ gate_of self.old + 1 + length block.now) }
         ensures stays { OnErr result (self.new ≡ self.old) }
         ensures base { KeepsBase self.old self.new }
-        ensures told { OnOk result (IsSomeAnd (D.state disk.new).told
-            (λ n. gate_of self.new + 1 ≤ n)) }
+        ensures told { OnOk result (HasTail (D.state disk.new).told self.new) }
         ensures faults { CountsAlone result (D.state disk.old).faults (D.state disk.new).faults }
     {
         let next = put(disk, self.at, block)?;
@@ -145,19 +143,13 @@ impl BlockFile {
         len: u64,
     ) -> Result<(), FileErr>
         requires from { IsSomeAnd (D.state from.old).told (λ n. at + len ≤ n) }
-        requires length { IsSomeAnd (D.state disk.old).told (λ n. gate_of self.old + 1 ≤ n) }
+        requires length { HasTail (D.state disk.old).told self.old }
         ensures seen { OnOk result (IsTrue D.tells
-            → (front : List ℕ) (blocks more : List (List ℕ))
-            → (D.state disk.old).bytes.seen ≡ whole_file front blocks
-            → tail_of front blocks ≡ gate_of self.old
-            → take len (drop at (D.state from.old).bytes.seen) ≡ open_blocks more
-            → (D.state disk.new).bytes.seen ≡ whole_file front (blocks ++ more)) }
-
-        // Whatever bytes they are, they stand over the tail gate of a file that ended with it, and a gate behind them.
+            → AddsBlocks (gate_of self.old) (take len (drop at (D.state from.old).bytes.seen))
+            (D.state disk.old).bytes.seen (D.state disk.new).bytes.seen) }
         ensures copied { OnOk result (IsTrue D.tells
-            → length (D.state disk.old).bytes.seen ≡ gate_of self.old + 1
-            → (D.state disk.new).bytes.seen ≡ take (gate_of self.old) (D.state disk.old).bytes.seen
-            ++ take len (drop at (D.state from.old).bytes.seen) ++ 0 ∷ []) }
+            → AddsBytes (gate_of self.old) (take len (drop at (D.state from.old).bytes.seen))
+            (D.state disk.old).bytes.seen (D.state disk.new).bytes.seen) }
         ensures veiled { IsTrue D.tells → IsVeiled (D.state disk.old).bytes
             → IsVeiled (D.state disk.new).bytes }
 
@@ -169,8 +161,7 @@ impl BlockFile {
         ensures place { OnOk result (gate_of self.new ≡ gate_of self.old + len) }
         ensures stays { OnErr result (self.new ≡ self.old) }
         ensures base { KeepsBase self.old self.new }
-        ensures told { OnOk result (IsSomeAnd (D.state disk.new).told
-            (λ n. gate_of self.new + 1 ≤ n)) }
+        ensures told { OnOk result (HasTail (D.state disk.new).told self.new) }
         ensures faults { CountsTwoAlone result (D.state from.old).faults (D.state from.new).faults
             (D.state disk.old).faults (D.state disk.new).faults }
     {
@@ -181,7 +172,7 @@ impl BlockFile {
 
     /// Opens a file that [`BlockFile::create`] made, for good: syncs, opens the file's gate, and syncs.
     pub fn unveil<D: Disk>(&mut self, disk: &mut D) -> Result<(), FileErr>
-        requires length { IsSomeAnd (D.state disk.old).told (λ n. gate_of self.old + 1 ≤ n) }
+        requires length { HasTail (D.state disk.old).told self.old }
         ensures ok { OnOk result (IsTrue D.tells
             → (D.state disk.new).bytes ≡ settled_state (1 ∷ drop 1 (D.state disk.old).bytes.seen)) }
 
@@ -190,8 +181,7 @@ impl BlockFile {
             → (image : List ℕ) → MayLeave (D.state disk.new).bytes image
             → (get_or image 0 0 ≢ 1) ⊎ (image ≡ 1 ∷ drop 1 (D.state disk.old).bytes.seen)) }
         ensures same { self.new ≡ self.old }
-        ensures told { OnOk result (IsSomeAnd (D.state disk.new).told
-            (λ n. gate_of self.new + 1 ≤ n)) }
+        ensures told { OnOk result (HasTail (D.state disk.new).told self.new) }
         ensures faults { CountsAlone result (D.state disk.old).faults (D.state disk.new).faults }
     {
         open_for_good(disk)?;
@@ -319,7 +309,7 @@ impl BlockFile {
 
     /// Cuts off what stands behind the tail gate, which is the next gate, and syncs.
     pub fn trim<D: Disk>(&mut self, disk: &mut D) -> Result<(), FileErr>
-        requires length { IsSomeAnd (D.state disk.old).told (λ n. gate_of self.old + 1 ≤ n) }
+        requires length { HasTail (D.state disk.old).told self.old }
 
         // After it the file ends with its tail gate in every image.
         ensures ok { OnOk result (IsTrue D.tells
@@ -378,20 +368,16 @@ impl BlockFile {
         buffer: &mut Vec<u8>,
         first: u64,
     ) -> Result<Option<BlockAt>, FileErr>
-        requires told { IsSomeAnd (D.state disk.old).told (λ n. gate_of self.old + 1 ≤ n) }
+        requires told { HasTail (D.state disk.old).told self.old }
         requires number { first < 2 ^ 32 }
         ensures answer { IsTrue D.tells → IsNextBlock (gate_of self.old)
             (D.state disk.old).bytes.seen first result }
 
         // The block that stands there is the one that is read, and none is where the blocks end.
         ensures parse { IsTrue D.tells
-            → (front : List ℕ) (before after : List (List ℕ)) (root : List ℕ) (es : List Entry)
-            → IsFileOf front (before ++ block_bytes root es ∷ after) (D.state disk.old).bytes.seen
-            → tail_of front before ≡ gate_of self.old → length root ≡ 32 → AreBlock first es
-            → GivesBlock (gate_of self.old) root es result }
-        ensures ends { IsTrue D.tells → (front : List ℕ) (blocks : List (List ℕ))
-            → IsFileOf front blocks (D.state disk.old).bytes.seen → tail_of front blocks ≡ gate_of self.old
-            → GivesEnd result }
+            → GivesThere (gate_of self.old) (D.state disk.old).bytes.seen first result }
+        ensures ends { IsTrue D.tells
+            → GivesNone (gate_of self.old) (D.state disk.old).bytes.seen result }
 
         // Also where the disk doesn't tell what it holds.
         ensures read { IfOk result (λ found. IfSome found (λ block. (es : List Entry)
@@ -402,8 +388,7 @@ impl BlockFile {
         ensures stays { OnErr result (self.new ≡ self.old) }
         ensures ended { IfOk result (λ found. IfNone found (self.new ≡ self.old)) }
         ensures base { KeepsBase self.old self.new }
-        ensures told { OnOk result (IsSomeAnd (D.state disk.new).told
-            (λ n. gate_of self.new + 1 ≤ n)) }
+        ensures told { OnOk result (HasTail (D.state disk.new).told self.new) }
         ensures state { IsTrue D.tells → (D.state disk.new).bytes ≡ (D.state disk.old).bytes }
         ensures length { KeepsLength (D.state disk.old).told (D.state disk.new).told }
         ensures faults { Counts result (D.state disk.old).faults (D.state disk.new).faults }
@@ -432,8 +417,7 @@ impl BlockFile {
         ensures place { OnOk result (gate_of self.new ≡ gate_of self.old + 1 + length block.now) }
         ensures stays { OnErr result (self.new ≡ self.old) }
         ensures base { KeepsBase self.old self.new }
-        ensures length { OnOk result (IsSomeAnd (D.state disk.new).told
-            (λ n. gate_of self.new + 1 ≤ n)) }
+        ensures length { OnOk result (HasTail (D.state disk.new).told self.new) }
         ensures faults { CountsAlone result (D.state disk.old).faults (D.state disk.new).faults }
     {
         self.commit_blocks(disk, block)
@@ -454,8 +438,7 @@ impl BlockFile {
         ensures place { OnOk result (gate_of self.new ≡ gate_of self.old + 1 + length bytes.now) }
         ensures stays { OnErr result (self.new ≡ self.old) }
         ensures base { KeepsBase self.old self.new }
-        ensures length { OnOk result (IsSomeAnd (D.state disk.new).told
-            (λ n. gate_of self.new + 1 ≤ n)) }
+        ensures length { OnOk result (HasTail (D.state disk.new).told self.new) }
         ensures faults { CountsAlone result (D.state disk.old).faults (D.state disk.new).faults }
     {
         stage(disk, self.at, bytes)?;

@@ -10,7 +10,7 @@ use hex::FromHex;
 use journal_record::{
     Approval, Header, Kind, Stamp, approval_digest, content_digest, request_digest,
 };
-use ledger_book::{Book, Genesis, Job, Limits, Outcome, Query};
+use ledger_book::{Book, Genesis, Job, Limits, Outcome};
 use ledger_bytes::{BLOCK_LIMIT, Bytes, Digest, NoMemory, Refusal, Sha, TimeMark};
 use merkle_tree::{Head, leaf_of};
 use std::alloc::Global;
@@ -87,8 +87,8 @@ fn anchor(rt: &impl Abort, book: &mut Book, index: u8) -> Result<(), NoMemory> {
     };
     book.seal();
     let asked = book.apply(&Job::Anchor)?;
-    assert!(rt; asked == Outcome::Reading(Query::Stamp));
-    if let Outcome::Reading(_) = asked {
+    assert!(rt; asked == Outcome::StampWanted);
+    if let Outcome::StampWanted = asked {
         book.place_time(&stamp)?;
     }
     book.seal();

@@ -8,7 +8,7 @@ use hex::FromHex;
 use journal_record::{
     Approval, approval_digest, clue_digest, content_digest, member_request_digest, request_digest,
 };
-use ledger_book::{Job, Prepared};
+use ledger_book::{Job, Prepared, Query};
 use ledger_bytes::{Bytes, Digest, NoMemory};
 use ledger_disk::{Disk, MemDisk};
 use ledger_io::{MemSink, Sink};
@@ -249,8 +249,8 @@ fn job_of(alloc: Global, id: &Digest, ask: Ask) -> Result<Job, NoMemory>
             record(alloc, id, member, name, content, number)
         }
         Ask::Member => third_member(alloc, id),
-        Ask::Head => Ok(Job::Head),
-        Ask::Get(n) => Ok(Job::Get { n }),
+        Ask::Head => Ok(Job::Ask(Query::Head)),
+        Ask::Get(n) => Ok(Job::Ask(Query::Get { n })),
     }
 }
 

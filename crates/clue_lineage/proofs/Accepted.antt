@@ -17,7 +17,7 @@ use Rattle.audit_core.proofs.RootLaws.{same_digest, same_bytes, is_root_means, i
 use Rattle.clue_lineage.specs.declared.answer.Run.{Run}
 use Rattle.clue_lineage.specs.declared.answer.LineageNo.{LineageNo}
 use Rattle.clue_lineage.specs.declared.answer.LineageNo.TheVariants.{Malformed, HeadUnknown, LineageClue, LineageLink, LeafPath}
-use Rattle.clue_lineage.specs.Lineages.{Item, Lineage}
+use Rattle.clue_lineage.specs.Lineages.{LineageItem, Lineage}
 use Rattle.clue_lineage.specs.Reading.{lineage_of, break_of}
 use Rattle.clue_lineage.specs.Accepting.{is_record, is_record_of, follows, leads, first_stranger, first_break_behind, first_break, run_of, unless, first_refusal, acceptance_under, acceptance_of, acceptance, IsRecordOf, Follows, FollowOn, AreLinked, Leads, IsAccepted}
 use Rattle.clue_lineage.proofs.Spelled.{lineage_of_found, lineage_of_only}
@@ -47,7 +47,7 @@ record_kind Occult e = absurd cc
 record_kind Purge e = absurd cc
 record_kind ClueOccult e = absurd cc
 
-pub record_means : (clue : Digest) (item : Item) → is_record_of clue item.header ≡ true → IsRecordOf clue item
+pub record_means : (clue : Digest) (item : LineageItem) → is_record_of clue item.header ≡ true → IsRecordOf clue item
 record_means clue item e =
     let both = and_parts (is_record item.header.kind) (bytes_eq item.header.clue.0 clue.0) e in
     record { kind = record_kind item.header.kind both.0; clue_is = same_digest item.header.clue clue both.1 }
@@ -55,7 +55,7 @@ record_means clue item e =
 both_true : (a b : Bool) → a ≡ true → b ≡ true → (a && b) ≡ true
 both_true a b first second = rw (first, second) refl
 
-pub record_told : (clue : Digest) (item : Item) → IsRecordOf clue item → is_record_of clue item.header ≡ true
+pub record_told : (clue : Digest) (item : LineageItem) → IsRecordOf clue item → is_record_of clue item.header ≡ true
 record_told clue item is =
     both_true (is_record item.header.kind) (bytes_eq item.header.clue.0 clue.0) (ap is_record is.kind) (ap (λ (d : Digest). bytes_eq d.0 clue.0) is.clue_is ∙ same_bytes clue.0)
 
@@ -74,41 +74,41 @@ passed_over : (b : Bool) (at : ℕ) (rest : Option ℕ) → cond b rest (Some at
 passed_over true at rest e = (refl, e)
 passed_over false at rest e = absurd cc
 
-no_stranger : (clue : Digest) (at : ℕ) (items : List Item) → first_stranger clue at items ≡ None → AllByRecursion (IsRecordOf clue) items
+no_stranger : (clue : Digest) (at : ℕ) (items : List LineageItem) → first_stranger clue at items ≡ None → AllByRecursion (IsRecordOf clue) items
 no_stranger clue at [] e = tt
 no_stranger clue at (item ∷ more) e =
     let one = passed_over (is_record_of clue item.header) at (first_stranger clue (at + 1) more) e in
     (record_means clue item one.0, no_stranger clue (at + 1) more one.1)
 
-stranger_none : (clue : Digest) (at : ℕ) (items : List Item) → AllByRecursion (IsRecordOf clue) items → first_stranger clue at items ≡ None
+stranger_none : (clue : Digest) (at : ℕ) (items : List LineageItem) → AllByRecursion (IsRecordOf clue) items → first_stranger clue at items ≡ None
 stranger_none clue at [] all = refl
 stranger_none clue at (item ∷ more) all = rw (record_told clue item all.0) (stranger_none clue (at + 1) more all.1)
 
-no_break : (before : Header) (at : ℕ) (items : List Item) → first_break_behind before at items ≡ None → FollowOn before items
+no_break : (before : Header) (at : ℕ) (items : List LineageItem) → first_break_behind before at items ≡ None → FollowOn before items
 no_break before at [] e = tt
 no_break before at (item ∷ more) e =
     let one = passed_over (follows before item.header) at (first_break_behind item.header (at + 1) more) e in
     (follows_means before item.header one.0, no_break item.header (at + 1) more one.1)
 
-break_none : (before : Header) (at : ℕ) (items : List Item) → FollowOn before items → first_break_behind before at items ≡ None
+break_none : (before : Header) (at : ℕ) (items : List LineageItem) → FollowOn before items → first_break_behind before at items ≡ None
 break_none before at [] all = refl
 break_none before at (item ∷ more) all = rw (follows_told before item.header all.0) (break_none item.header (at + 1) more all.1)
 
-linked_so : (items : List Item) → first_break items ≡ None → AreLinked items
+linked_so : (items : List LineageItem) → first_break items ≡ None → AreLinked items
 linked_so [] e = tt
 linked_so (item ∷ more) e = no_break item.header 1 more e
 
-so_linked : (items : List Item) → AreLinked items → first_break items ≡ None
+so_linked : (items : List LineageItem) → AreLinked items → first_break items ≡ None
 so_linked [] all = refl
 so_linked (item ∷ more) all = break_none item.header 1 more all
 
-all_lead_so : (hash : Hash) (head : Head) (items : List Item) → list_all (leads hash head) items ≡ true → AllByRecursion (Leads hash head) items
+all_lead_so : (hash : Hash) (head : Head) (items : List LineageItem) → list_all (leads hash head) items ≡ true → AllByRecursion (Leads hash head) items
 all_lead_so hash head [] e = tt
 all_lead_so hash head (item ∷ more) e =
     let both = and_parts (leads hash head item) (list_all (leads hash head) more) e in
     (is_root_means head.root _ both.0, all_lead_so hash head more both.1)
 
-so_all_lead : (hash : Hash) (head : Head) (items : List Item) → AllByRecursion (Leads hash head) items → list_all (leads hash head) items ≡ true
+so_all_lead : (hash : Hash) (head : Head) (items : List LineageItem) → AllByRecursion (Leads hash head) items → list_all (leads hash head) items ≡ true
 so_all_lead hash head [] all = refl
 so_all_lead hash head (item ∷ more) all =
     both_true (leads hash head item) (list_all (leads hash head) more) (is_root_of head.root _ all.0) (so_all_lead hash head more all.1)

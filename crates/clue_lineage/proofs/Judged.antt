@@ -22,7 +22,7 @@ use Rattle.clue_lineage.specs.declared.answer.LineageNo.{LineageNo}
 use Rattle.clue_lineage.specs.declared.answer.LineageNo.TheVariants.{Malformed}
 use Rattle.clue_lineage.specs.declared.answer.LineageVerdict.{LineageVerdict}
 use Rattle.clue_lineage.specs.declared.answer.LineageVerdict.TheVariants.{Unaccepted, True, Clash}
-use Rattle.clue_lineage.specs.Lineages.{Item, Lineage}
+use Rattle.clue_lineage.specs.Lineages.{LineageItem, Lineage}
 use Rattle.clue_lineage.specs.Reading.{lineage_of, break_of}
 use Rattle.clue_lineage.specs.Accepting.{acceptance_under, acceptance_of, acceptance}
 use Rattle.clue_lineage.specs.Judging.{own_head, own_acceptance, IsOf, AreOfList, IsTrueOf, Gives, parts_of, clash_in, clash_of, Judges, JudgesRead}
@@ -36,11 +36,11 @@ module _ (hash : Hash) (list : List (List ℕ)) where
       → acceptance_under hash clue (own_head hash list) l ≡ answer
   seen_under clue own l answer own_is e = sym (e ∙ ap (λ (h : Head). acceptance_under hash clue h l) own_is)
 
-  item_within : (item : Item) → Gives hash list item → item.header.jsn < length list
+  item_within : (item : LineageItem) → Gives hash list item → item.header.jsn < length list
   item_within item gives = (fold_bytes_parts hash (leaf hash (headers.spelling item.header)) item.header.jsn (length list) item.path (ap is_some gives)).0
 
   -- where all parts agree each journal is the list's
-  pub agree_of : (items : List Item) → AllByRecursion (Gives hash list) items → Agree (parts_of hash list items) → AllByRecursion (IsOf list) items
+  pub agree_of : (items : List LineageItem) → AllByRecursion (Gives hash list) items → Agree (parts_of hash list items) → AllByRecursion (IsOf list) items
   agree_of [] gives agree = tt
   agree_of (item ∷ more) gives agree = (
     record { within = item_within item gives.0; stands = sym (told_same (headers.spelling item.header) (get_or list item.header.jsn []) agree.1.0) },
@@ -48,7 +48,7 @@ module _ (hash : Hash) (list : List (List ℕ)) where
   )
 
   -- and the other way round
-  pub of_agree : (items : List Item) → AllByRecursion (IsOf list) items → Agree (parts_of hash list items)
+  pub of_agree : (items : List LineageItem) → AllByRecursion (IsOf list) items → Agree (parts_of hash list items)
   of_agree [] all = tt
   of_agree (item ∷ more) all =
       let there : get_or (map (leaf hash) list) item.header.jsn [] ≡ leaf hash (get_or list item.header.jsn []) = get_or-map (leaf hash) list item.header.jsn [] [] all.0.within in (
@@ -56,21 +56,21 @@ module _ (hash : Hash) (list : List (List ℕ)) where
         (same_told (headers.spelling item.header) _ (sym all.0.stands), of_agree more all.1),
       )
 
-  pub not_of : (items : List Item) (pair : List ℕ × List ℕ) → first_of_parts (parts_of hash list items) ≡ Some pair → AllByRecursion (IsOf list) items → ⊥
+  pub not_of : (items : List LineageItem) (pair : List ℕ × List ℕ) → first_of_parts (parts_of hash list items) ≡ Some pair → AllByRecursion (IsOf list) items → ⊥
   not_of items pair found all = absurd (let never : None ≡ Some pair = sym (first_none (parts_of hash list items) (of_agree items all)) ∙ found in cc)
 
   ok_so : (clue : Digest) (l : Lineage) (run : Run) → acceptance_under hash clue (own_head hash list) l ≡ Ok run → IsOk (acceptance_under hash clue (own_head hash list) l)
   ok_so clue l run e = ap is_ok e
 
-  pub read_true : (clue : Digest) (l : Lineage) (run : Run) (items : List Item) → items ≡ l.items → acceptance_under hash clue (own_head hash list) l ≡ Ok run
+  pub read_true : (clue : Digest) (l : Lineage) (run : Run) (items : List LineageItem) → items ≡ l.items → acceptance_under hash clue (own_head hash list) l ≡ Ok run
       → Agree (parts_of hash list items) → JudgesRead hash list clue l True
   read_true clue l run items is e agree =
-      (ok_so clue l run e, agree_of l.items (gives_of clue l run e) (subst (λ (xs : List Item). Agree (parts_of hash list xs)) is agree))
+      (ok_so clue l run e, agree_of l.items (gives_of clue l run e) (subst (λ (xs : List LineageItem). Agree (parts_of hash list xs)) is agree))
 
-  pub read_clash : (clue : Digest) (l : Lineage) (run : Run) (items : List Item) (clash : ClashRecord) → items ≡ l.items → acceptance_under hash clue (own_head hash list) l ≡ Ok run
+  pub read_clash : (clue : Digest) (l : Lineage) (run : Run) (items : List LineageItem) (clash : ClashRecord) → items ≡ l.items → acceptance_under hash clue (own_head hash list) l ≡ Ok run
       → IsClashOf hash (first_of_parts (parts_of hash list items)) (pair_of clash) → JudgesRead hash list clue l (Clash clash)
   read_clash clue l run items clash is e found =
-      let own : IsClashOf hash (first_of_parts (parts_of hash list l.items)) (pair_of clash) = subst (λ (xs : List Item). IsClashOf hash (first_of_parts (parts_of hash list xs)) (pair_of clash)) is found in
+      let own : IsClashOf hash (first_of_parts (parts_of hash list l.items)) (pair_of clash) = subst (λ (xs : List LineageItem). IsClashOf hash (first_of_parts (parts_of hash list xs)) (pair_of clash)) is found in
       (ok_so clue l run e, not_of l.items (pair_of clash) own.found_is, own)
 
   -- ---- what was read
@@ -87,12 +87,12 @@ module _ (hash : Hash) (list : List (List ℕ)) where
     judged l (Clash clash) read it = rw (← read) it
 
     module _ (makes : Makes hash) where
-      tells : (items : List Item) → AllByRecursion (Gives hash list) items → AllByRecursion (IsOf list) items ⊎ Clashes hash (first_of_parts (parts_of hash list items))
+      tells : (items : List LineageItem) → AllByRecursion (Gives hash list) items → AllByRecursion (IsOf list) items ⊎ Clashes hash (first_of_parts (parts_of hash list items))
       tells [] gives = inl tt
       tells (item ∷ more) gives =
           placed_leads_on hash makes list (headers.spelling item.header) item.header.jsn item.path gives.0 (AllByRecursion (IsOf list) (item ∷ more)) (parts_of hash list more)
           (λ same. with_first item more (record { within = item_within item gives.0; stands = sym same }) (tells more gives.1)) where
-            with_first : (item : Item) (more : List Item) → IsOf list item → AllByRecursion (IsOf list) more ⊎ Clashes hash (first_of_parts (parts_of hash list more))
+            with_first : (item : LineageItem) (more : List LineageItem) → IsOf list item → AllByRecursion (IsOf list) more ⊎ Clashes hash (first_of_parts (parts_of hash list more))
                 → AllByRecursion (IsOf list) (item ∷ more) ⊎ Clashes hash (first_of_parts (parts_of hash list more))
             with_first item more first (inl rest) = inl (first, rest)
             with_first item more first (inr clashes) = inr clashes

@@ -16,7 +16,7 @@ use Rattle.journal_record.proofs.ReadingLaws.{header_of_only}
 use Rattle.ledger_model.specs.Clues.{is_of_clue, numbers_of, last_of}
 use Rattle.ledger_model.specs.History.{History, history, journals, leaves}
 use Rattle.ledger_model.specs.Lawful.{IsNext, AreNext, AreLawful}
-use Rattle.clue_lineage.specs.Lineages.{Item}
+use Rattle.clue_lineage.specs.Lineages.{LineageItem}
 use Rattle.clue_lineage.specs.Accepting.{is_record_of}
 use Rattle.clue_lineage.specs.Runs.{reads_record, is_of, read_number, number_of, records_in, KeepsClueRule, AreWide}
 use Rattle.clue_lineage.proofs.Accepted.{record_means, record_told}
@@ -46,7 +46,7 @@ same_test clue e some fits = ap (reads_record clue) (reads e fits) ∙ (elim (ca
     | inr none ↦ none ∙ sym other
   ]
 ]) where
-  item_of : Entry → Item
+  item_of : Entry → LineageItem
   item_of e = record { header = e.header; path = [] }
 
   of_clue : (clue : Digest) (e : Entry) → is_no_clue clue ≡ false → e.header.clue ≡ clue → is_of_clue clue e ≡ true

@@ -17,7 +17,7 @@ use Rattle.journal_record.proofs.ReadingLaws.{header_of_only}
 use Rattle.tree_model.specs.Tree.{Hash}
 use Rattle.merkle_tree.specs.declared.head.Head.{Head}
 use Rattle.clue_lineage.specs.declared.answer.Run.{Run}
-use Rattle.clue_lineage.specs.Lineages.{Item, Lineage, IsItem}
+use Rattle.clue_lineage.specs.Lineages.{LineageItem, Lineage, IsItem}
 use Rattle.clue_lineage.specs.Reading.{lineage_of}
 use Rattle.clue_lineage.specs.Accepting.{last_ordinal, run_of, acceptance, IsRecordOf, FollowOn, AreLinked}
 use Rattle.clue_lineage.specs.Judging.{IsOf, AreOfList, IsTrueOf}
@@ -194,20 +194,20 @@ module _ (clue : Digest) (some : is_no_clue clue ≡ false) where
 -- ---- the journals of an accepted lineage
 
 -- a journal as a list tells it
-record Told (clue : Digest) (list : List (List ℕ)) (item : Item) : Type 0 where
+record Told (clue : Digest) (list : List (List ℕ)) (item : LineageItem) : Type 0 where
   fits : IsItem item
   record_of : IsRecordOf clue item
   of : IsOf list item
 
-told_all : (clue : Digest) (list : List (List ℕ)) (items : List Item) → All IsItem items → AllByRecursion (IsRecordOf clue) items → AllByRecursion (IsOf list) items → AllByRecursion (Told clue list) items
+told_all : (clue : Digest) (list : List (List ℕ)) (items : List LineageItem) → All IsItem items → AllByRecursion (IsRecordOf clue) items → AllByRecursion (IsOf list) items → AllByRecursion (Told clue list) items
 told_all clue list [] fits records of = tt
 told_all clue list (x ∷ xs) fits records of = (record { fits = All-head IsItem x xs fits; record_of = records.0; of = of.0 }, told_all clue list xs (All-tail IsItem x xs fits) records.1 of.1)
 
-header_read : (item : Item) → IsItem item → header_of (headers.spelling item.header) ≡ Ok item.header
+header_read : (item : LineageItem) → IsItem item → header_of (headers.spelling item.header) ≡ Ok item.header
 header_read item fits = header_of_only (headers.spelling item.header) item.header fits.rules fits.widths refl
 
 module _ (clue : Digest) (list : List (List ℕ)) where
-  at_place : (item : Item) (n : ℕ) → Told clue list item → item.header.clue_ord ≡ n → IsAt (is_of clue) ordinal_of list n (headers.spelling item.header)
+  at_place : (item : LineageItem) (n : ℕ) → Told clue list item → item.header.clue_ord ≡ n → IsAt (is_of clue) ordinal_of list n (headers.spelling item.header)
   at_place item n t is = record {
     place = item.header.jsn;
     within = t.of.within;
@@ -216,7 +216,7 @@ module _ (clue : Digest) (list : List (List ℕ)) where
     numbered = ap read_ordinal (header_read item t.fits) ∙ is;
   }
 
-  run_behind : (before : Header) (n : ℕ) (items : List Item) → before.clue_ord ≡ n → FollowOn before items → AllByRecursion (Told clue list) items
+  run_behind : (before : Header) (n : ℕ) (items : List LineageItem) → before.clue_ord ≡ n → FollowOn before items → AllByRecursion (Told clue list) items
       → (i : ℕ) → i < length (headers_of items) → IsAt (is_of clue) ordinal_of list (n + 1 + i) (get_or (headers_of items) i [])
   run_behind before n [] is behind told i inside = absurd (omega (arith, inside))
   run_behind before n (x ∷ xs) is behind told zero inside = at_place x (n + 1 + 0) told.0 (omega (arith, behind.0.ordinal, is))
@@ -224,7 +224,7 @@ module _ (clue : Digest) (list : List (List ℕ)) where
       subst (λ k. IsAt (is_of clue) ordinal_of list k (get_or (headers_of xs) i [])) (omega arith)
       (run_behind x.header (n + 1) xs (omega (arith, behind.0.ordinal, is)) behind.1 told.1 i (omega (arith, inside)))
 
-  run_linked : (items : List Item) → AreLinked items → AllByRecursion (Told clue list) items
+  run_linked : (items : List LineageItem) → AreLinked items → AllByRecursion (Told clue list) items
       → (i : ℕ) → i < length (headers_of items) → IsAt (is_of clue) ordinal_of list ((run_of items).first + i) (get_or (headers_of items) i [])
   run_linked [] linked told i inside = absurd (omega (arith, inside))
   run_linked (x ∷ xs) linked told zero inside = at_place x (x.header.clue_ord + 0) told.0 (omega arith)
@@ -233,24 +233,24 @@ module _ (clue : Digest) (list : List (List ℕ)) where
       (run_behind x.header x.header.clue_ord xs refl linked told.1 i (omega (arith, inside)))
 
 -- the ordinals of a run count up
-last_behind : (before : Header) (items : List Item) → FollowOn before items → last_ordinal before.clue_ord items ≡ before.clue_ord + length items
+last_behind : (before : Header) (items : List LineageItem) → FollowOn before items → last_ordinal before.clue_ord items ≡ before.clue_ord + length items
 last_behind before [] behind = omega arith
 last_behind before (x ∷ xs) behind = omega (arith, last_behind x.header xs behind.1, behind.0.ordinal)
 
-run_counts : (items : List Item) → 1 ≤ length items → AreLinked items → (run_of items).last + 1 ≡ (run_of items).first + (run_of items).count
+run_counts : (items : List LineageItem) → 1 ≤ length items → AreLinked items → (run_of items).last + 1 ≡ (run_of items).first + (run_of items).count
 run_counts [] some linked = absurd (omega (arith, some))
 run_counts (x ∷ xs) some linked = omega (arith, last_behind x.header xs linked)
 
-run_count : (items : List Item) → (run_of items).count ≡ length (headers_of items)
+run_count : (items : List LineageItem) → (run_of items).count ≡ length (headers_of items)
 run_count [] = refl
-run_count (x ∷ xs) = omega (arith, length-map (x ∷ xs) (λ (i : Item). headers.spelling i.header))
+run_count (x ∷ xs) = omega (arith, length-map (x ∷ xs) (λ (i : LineageItem). headers.spelling i.header))
 
 pub run_counted : (hash : Hash) (bytes : List ℕ) (clue : Digest) (head : Head) (run : Run) → IsBytes bytes → acceptance hash bytes clue head ≡ Ok run → run.last + 1 ≡ run.first + run.count
 run_counted hash bytes clue head run plain e =
     let a = accepted_found hash bytes clue head run plain e in
     subst (λ (r : Run). r.last + 1 ≡ r.first + r.count) (sym a.run_is) (run_counts a.lineage.items a.is_lineage.some a.linked)
 
-first_some : (clue : Digest) (items : List Item) → is_no_clue clue ≡ false → 1 ≤ length items → All IsItem items → AllByRecursion (IsRecordOf clue) items → 1 ≤ (run_of items).first
+first_some : (clue : Digest) (items : List LineageItem) → is_no_clue clue ≡ false → 1 ≤ length items → All IsItem items → AllByRecursion (IsRecordOf clue) items → 1 ≤ (run_of items).first
 first_some clue [] some long fits records = absurd (omega (arith, long))
 first_some clue (x ∷ xs) some long fits records =
     let rules = All-head IsItem x xs fits in

@@ -19,7 +19,7 @@ use Rattle.journal_record.proofs.Spelling.{length-spelling}
 use Rattle.proof_codec.specs.Proofs.{with_count, IsDigests}
 use Rattle.proof_codec.specs.Reading.{digests_at, header_break}
 use Rattle.proof_codec.proofs.Parts.{text_last, digests_text, digests_back}
-use Rattle.clue_lineage.specs.Lineages.{Item, Lineage, item_text, items_text, front_text, spelling, IsItem, IsLineage}
+use Rattle.clue_lineage.specs.Lineages.{LineageItem, Lineage, item_text, items_text, front_text, spelling, IsItem, IsLineage}
 use Rattle.clue_lineage.specs.Reading.{item_at, behind, items_at, count_ok, front_at, lineage_at, lineage_of, HasItems, read_items, items_in}
 
 abbrev back16 : ReadsBack (number_at w16) (to_be_bytes w16) (λ n. n < 2 ^ 16)
@@ -39,16 +39,16 @@ placed_ok at (Err (BadFixedField place)) x e = absurd cc
 placed_ok at (Err (NewerFormat found)) x e = absurd cc
 placed_ok at (Err TooLong) x e = absurd cc
 
-abbrev item_from : Header → List ℕ → Item
+abbrev item_from : Header → List ℕ → LineageItem
 item_from header path = record { header = header; path = path }
 
-abbrev from_path : Header → List ℕ × Unread → Result (Item × Unread) Bad
+abbrev from_path : Header → List ℕ × Unread → Result (LineageItem × Unread) Bad
 from_path header path = Ok (item_from header path.0, path.1)
 
-abbrev from_header : Header × Unread → Result (Item × Unread) Bad
+abbrev from_header : Header × Unread → Result (LineageItem × Unread) Bad
 from_header header = digests_at header.1 >>= from_path header.0
 
-item_takes : (at : ℕ) (l : Unread) (x : Item) (after : Unread) → IsBytes l.rest → item_at at l ≡ Ok (x, after) → Took l (item_text x) after × IsItem x
+item_takes : (at : ℕ) (l : Unread) (x : LineageItem) (after : Unread) → IsBytes l.rest → item_at at l ≡ Ok (x, after) → Took l (item_text x) after × IsItem x
 unfolding item_at item_text
 item_takes at l x after bytes e =
     let a = bind_ok (header_break at (header_at l)) from_header (x, after) e in
@@ -57,7 +57,7 @@ item_takes at l x after bytes e =
     let took = Took-then l (headers.spelling a.0.0) a.0.1 (with_count p.0.0) p.0.1 t.0 p.1 in
     answered item_text IsItem l (item_from a.0.0 p.0.0) x p.0.1 after p.3 took (record { rules = t.1.rules; widths = t.1.widths; path = p.2 })
 
-item_is : (at whole : ℕ) (x : Item) → IsItem x → IsTextOf (item_at at) whole (item_text x) x
+item_is : (at whole : ℕ) (x : LineageItem) → IsItem x → IsTextOf (item_at at) whole (item_text x) x
 unfolding item_at item_text
 item_is at whole x fits =
     let is = header_is x.header whole (record { rules = fits.rules; widths = fits.widths }) in
@@ -68,25 +68,25 @@ item_is at whole x fits =
 
 -- ---- journals
 
-abbrev from_rest : Item → List Item × Unread → Result (List Item × Unread) Bad
+abbrev from_rest : LineageItem → List LineageItem × Unread → Result (List LineageItem × Unread) Bad
 from_rest item more = Ok (item ∷ more.0, more.1)
 
-abbrev from_item : ℕ → ℕ → Item × Unread → Result (List Item × Unread) Bad
+abbrev from_item : ℕ → ℕ → LineageItem × Unread → Result (List LineageItem × Unread) Bad
 from_item n at item = items_at n (behind at item.0) item.1 >>= from_rest item.0
 
-pub items_takes : (n at : ℕ) (l : Unread) (items : List Item) (after : Unread) → IsBytes l.rest → items_at n at l ≡ Ok (items, after) → Took l (items_text items) after × All IsItem items × (length items ≡ n)
+pub items_takes : (n at : ℕ) (l : Unread) (items : List LineageItem) (after : Unread) → IsBytes l.rest → items_at n at l ≡ Ok (items, after) → Took l (items_text items) after × All IsItem items × (length items ≡ n)
 items_takes zero at l items after bytes e =
-    subst (λ (y : List Item × Unread). Took l (items_text y.0) y.1 × All IsItem y.0 × (length y.0 ≡ 0)) (ok_is ([], l) (items, after) e)
+    subst (λ (y : List LineageItem × Unread). Took l (items_text y.0) y.1 × All IsItem y.0 × (length y.0 ≡ 0)) (ok_is ([], l) (items, after) e)
     (record { whole = refl; parts = refl; bytes = bytes }, All-nil IsItem, refl)
 items_takes (suc n) at l items after bytes e =
     let first = bind_ok (item_at at l) (from_item n at) (items, after) e in
     let took = item_takes at l first.0.0 first.0.1 bytes first.1 in
     let rest = bind_ok (items_at n (behind at first.0.0) first.0.1) (from_rest first.0.0) (items, after) first.2 in
     let more = items_takes n (behind at first.0.0) first.0.1 rest.0.0 rest.0.1 took.0.bytes rest.1 in
-    subst (λ (y : List Item × Unread). Took l (items_text y.0) y.1 × All IsItem y.0 × (length y.0 ≡ suc n)) (ok_is (first.0.0 ∷ rest.0.0, rest.0.1) (items, after) rest.2)
+    subst (λ (y : List LineageItem × Unread). Took l (items_text y.0) y.1 × All IsItem y.0 × (length y.0 ≡ suc n)) (ok_is (first.0.0 ∷ rest.0.0, rest.0.1) (items, after) rest.2)
     (Took-then l (item_text first.0.0) first.0.1 (items_text rest.0.0) rest.0.1 took.0 more.0, All-cons IsItem first.0.0 rest.0.0 took.1 more.1, ap suc more.2)
 
-pub items_is : (at whole : ℕ) (items : List Item) → All IsItem items → IsTextOf (items_at (length items) at) whole (items_text items) items
+pub items_is : (at whole : ℕ) (items : List LineageItem) → All IsItem items → IsTextOf (items_at (length items) at) whole (items_text items) items
 items_is at whole [] all = text_none whole []
 items_is at whole (x ∷ xs) all =
     let more = text_last (items_at (length xs) (behind at x)) (from_rest x) whole (items_text xs) xs (x ∷ xs) (items_is (behind at x) whole xs (All-tail IsItem x xs all)) (text_none whole (x ∷ xs)) in
@@ -159,10 +159,10 @@ front_length f fits = simp length-append (omega (arith, fits.clue))
 
 -- ---- a lineage
 
-abbrev lineage_from : Front → List Item → Lineage
+abbrev lineage_from : Front → List LineageItem → Lineage
 lineage_from f items = record { size = f.0; clue = f.1; items = items }
 
-abbrev from_items : Front → List Item × Unread → Result (Lineage × Unread) Bad
+abbrev from_items : Front → List LineageItem × Unread → Result (Lineage × Unread) Bad
 from_items f items = Ok (lineage_from f items.0, items.1)
 
 abbrev pub from_front : Front × Unread → Result (Lineage × Unread) Bad
@@ -222,10 +222,10 @@ pub items_in_is : (n : ℕ) (bytes : List ℕ) (h : HasItems n bytes) → items_
 unfolding items_in
 items_in_is n bytes h = ap read_items (items_are n bytes h)
 
-pub item_again : (at whole : ℕ) (x : Item) (rest : List ℕ) → IsItem x → item_at at (left_from whole (item_text x ++ rest)) ≡ Ok (x, left_from whole rest)
+pub item_again : (at whole : ℕ) (x : LineageItem) (rest : List ℕ) → IsItem x → item_at at (left_from whole (item_text x ++ rest)) ≡ Ok (x, left_from whole rest)
 item_again at whole x rest fits = (item_is at whole x fits).again rest
 
-pub item_length : (x : Item) → IsItem x → length (item_text x) ≡ 175 + length x.path
+pub item_length : (x : LineageItem) → IsItem x → length (item_text x) ≡ 175 + length x.path
 unfolding item_text
 item_length x fits = simp length-append (omega (arith, length-spelling x.header fits.widths))
 
@@ -234,7 +234,7 @@ none_in n bytes none h = items_in_is n bytes h ∙ nil_from_length h.items (h.co
 
 -- the first journal of some, and the bytes of the others
 pub record FirstOf (n : ℕ) (bytes : List ℕ) : Type 0 where
-  pub item : Item
+  pub item : LineageItem
   pub rest : List ℕ
   pub fits : IsItem item
   pub text : bytes ≡ item_text item ++ rest
@@ -244,10 +244,10 @@ pub record FirstOf (n : ℕ) (bytes : List ℕ) : Type 0 where
 
 pub first_of : (n : ℕ) (bytes : List ℕ) → 0 < n → HasItems n bytes → FirstOf n bytes
 first_of n bytes some h = by h.items refl where
-  by : (items : List Item) → h.items ≡ items → FirstOf n bytes
+  by : (items : List LineageItem) → h.items ≡ items → FirstOf n bytes
   by [] e = absurd (omega (arith, some, h.count, ap length e))
   by (x ∷ xs) e =
-      let fit : All IsItem (x ∷ xs) = subst (λ (ys : List Item). All IsItem ys) e h.fit in
+      let fit : All IsItem (x ∷ xs) = subst (λ (ys : List LineageItem). All IsItem ys) e h.fit in
       let text : bytes ≡ item_text x ++ items_text xs = h.text ∙ ap items_text e in
       let others : HasItems (n - 1) (items_text xs) = record { items = xs; count = omega (arith, h.count, ap length e); fit = All-tail IsItem x xs fit; text = refl } in
       record {
@@ -257,11 +257,11 @@ first_of n bytes some h = by h.items refl where
         text = text;
         read = ap (λ (t : List ℕ). item_at 0 (left_from (length bytes) t)) text ∙ item_again 0 (length bytes) x (items_text xs) (All-head IsItem x xs fit);
         others = others;
-        all = items_in_is n bytes h ∙ e ∙ ap (λ (ys : List Item). x ∷ ys) (sym (items_in_is (n - 1) (items_text xs) others));
+        all = items_in_is n bytes h ∙ e ∙ ap (λ (ys : List LineageItem). x ∷ ys) (sym (items_in_is (n - 1) (items_text xs) others));
       }
 
 -- what stands behind the first journal
-pub rest_of : (bytes : List ℕ) (x : Item) (rest : List ℕ) (k : ℕ) → IsItem x → bytes ≡ item_text x ++ rest → k ≡ 175 + length x.path → drop k bytes ≡ rest
+pub rest_of : (bytes : List ℕ) (x : LineageItem) (rest : List ℕ) (k : ℕ) → IsItem x → bytes ≡ item_text x ++ rest → k ≡ 175 + length x.path → drop k bytes ≡ rest
 rest_of bytes x rest k fits text is = ap (drop k) text ∙ drop_at (item_text x) rest k (item_length x fits ∙ sym is)
 
 not_both : {A : Type 0} (r : Result A Bad) (bad : Bad) (x : A) → r ≡ Err bad → r ≡ Ok x → ⊥
@@ -276,13 +276,13 @@ module _ (n : ℕ) (bytes : List ℕ) (some : 0 < n) (h : HasItems n bytes) wher
   never_broken l bad at e =
       not_both (item_at 0 l) bad (first.item, left_from (length bytes) first.rest) e (ap (item_at 0) at ∙ first.read)
 
-  module _ (l after : Unread) (item : Item) (at : l ≡ left_from (length bytes) bytes) (read : item_at 0 l ≡ Ok (item, after)) where
+  module _ (l after : Unread) (item : LineageItem) (at : l ≡ left_from (length bytes) bytes) (read : item_at 0 l ≡ Ok (item, after)) where
     pub read_first : first.item ≡ item
-    read_first = ap (λ (y : Item × Unread). y.0) (ok_is (first.item, left_from (length bytes) first.rest) (item, after) (sym first.read ∙ ap (item_at 0) (sym at) ∙ read))
+    read_first = ap (λ (y : LineageItem × Unread). y.0) (ok_is (first.item, left_from (length bytes) first.rest) (item, after) (sym first.read ∙ ap (item_at 0) (sym at) ∙ read))
 
     module _ (path : List ℕ) (path_is : path ≡ item.path) where
       path_len : length path ≡ length first.item.path
-      path_len = ap length path_is ∙ ap (λ (i : Item). length i.path) (sym read_first)
+      path_len = ap length path_is ∙ ap (λ (i : LineageItem). length i.path) (sym read_first)
 
       pub long_enough : 175 + length path ≤ length bytes
       long_enough = omega (arith, path_len, ap length first.text, length-append (item_text first.item) first.rest, item_length first.item first.fits)
@@ -294,7 +294,7 @@ module _ (n : ℕ) (bytes : List ℕ) (some : 0 < n) (h : HasItems n bytes) wher
       others_left = subst (λ (t : List ℕ). HasItems (n - 1) t) (sym left_is) first.others
 
       pub first_taken : items_in n bytes ≡ item ∷ items_in (n - 1) (drop (175 + length path) bytes)
-      first_taken = first.all ∙ ap (λ (i : Item). i ∷ items_in (n - 1) first.rest) read_first ∙ ap (λ (t : List ℕ). item ∷ items_in (n - 1) t) (sym left_is)
+      first_taken = first.all ∙ ap (λ (i : LineageItem). i ∷ items_in (n - 1) first.rest) read_first ∙ ap (λ (t : List ℕ). item ∷ items_in (n - 1) t) (sym left_is)
 
 -- ---- the steps of reading all bytes
 
@@ -331,7 +331,7 @@ module _ (bytes : List ℕ) (start : Unread) (begins : start ≡ left_from (leng
     pub broken_items : (bad : Bad) → items_at f.2 43 l ≡ Err bad → Err bad ≡ lineage_of bytes
     broken_items bad e = sym (begun ∙ ap (λ r. r >>= from_items f >>= λ read. end_at read.0 read.1) e)
 
-    module _ (items : List Item) (after : Unread) (read : items_at f.2 43 l ≡ Ok (items, after)) where
+    module _ (items : List LineageItem) (after : Unread) (read : items_at f.2 43 l ≡ Ok (items, after)) where
       ended_so : lineage_of bytes ≡ end_at (lineage_from f items) after
       ended_so = begun ∙ ap (λ r. r >>= from_items f >>= λ read. end_at read.0 read.1) read
 
@@ -369,5 +369,5 @@ abbrev pub read_so : Lineage → Result Lineage Bad
 read_so l = Ok l
 
 -- journals that are seen are as many as are left
-pub items_counted : (n : ℕ) (bytes : List ℕ) (items : List Item) → items_in n bytes ≡ items → HasItems n bytes → n ≡ length items
+pub items_counted : (n : ℕ) (bytes : List ℕ) (items : List LineageItem) → items_in n bytes ≡ items → HasItems n bytes → n ≡ length items
 items_counted n bytes items seen h = sym h.count ∙ ap length (sym (items_in_is n bytes h) ∙ seen)

@@ -16,7 +16,7 @@ use Rattle.audit_core.specs.Leading.{path_leads}
 use Rattle.clue_lineage.specs.declared.answer.Run.{Run}
 use Rattle.clue_lineage.specs.declared.answer.LineageNo.{LineageNo}
 use Rattle.clue_lineage.specs.declared.answer.LineageNo.TheVariants.{Malformed, HeadUnknown, LineageClue, LineageLink, LeafPath}
-use Rattle.clue_lineage.specs.Lineages.{Item, Lineage, IsLineage, spelling}
+use Rattle.clue_lineage.specs.Lineages.{LineageItem, Lineage, IsLineage, spelling}
 use Rattle.clue_lineage.specs.Reading.{lineage_of, break_of}
 
 -- whether a journal of a kind is a member's record
@@ -33,33 +33,33 @@ abbrev pub follows : Header → Header → Bool
 follows before x = (x.clue_ord == before.clue_ord + 1) && (x.clue_prev == before.jsn)
 
 -- whether a journal leads along its path to a head's root, under the head's size
-abbrev pub leads : Hash → Head → Item → Bool
+abbrev pub leads : Hash → Head → LineageItem → Bool
 leads hash head item = path_leads hash head.root (leaf hash (headers.spelling item.header)) item.header.jsn head.size item.path
 
 -- the place of the first journal that isn't a record with this clue, where the first of all has this place
-abbrev pub first_stranger : Digest → ℕ → List Item → Option ℕ
+abbrev pub first_stranger : Digest → ℕ → List LineageItem → Option ℕ
 first_stranger clue at [] = None
 first_stranger clue at (item ∷ more) = if is_record_of clue item.header then first_stranger clue (at + 1) more else Some at
 
 -- the place of the first journal that doesn't follow the one in front of it, where the first behind that has this place
-abbrev pub first_break_behind : Header → ℕ → List Item → Option ℕ
+abbrev pub first_break_behind : Header → ℕ → List LineageItem → Option ℕ
 first_break_behind before at [] = None
 first_break_behind before at (item ∷ more) =
     if follows before item.header then first_break_behind item.header (at + 1) more else Some at
 
 -- The place of the first journal that doesn't follow the one in front of it, from 0; the first of all follows none.
 -- Example: of ordinals 4, 5 and 7 the place 2.
-abbrev pub first_break : List Item → Option ℕ
+abbrev pub first_break : List LineageItem → Option ℕ
 first_break [] = None
 first_break (item ∷ more) = first_break_behind item.header 1 more
 
 -- the ordinal of the last of some journals, behind one with this ordinal
-abbrev pub last_ordinal : ℕ → List Item → ℕ
+abbrev pub last_ordinal : ℕ → List LineageItem → ℕ
 last_ordinal before [] = before
 last_ordinal before (item ∷ more) = last_ordinal item.header.clue_ord more
 
 -- the run that journals are: the ordinals of the first and of the last, and how many there are
-abbrev pub run_of : List Item → Run
+abbrev pub run_of : List LineageItem → Run
 run_of [] = record { first = 0; last = 0; count = 0 }
 run_of (item ∷ more) = record { first = item.header.clue_ord; last = last_ordinal item.header.clue_ord more; count = length (item ∷ more) }
 
@@ -103,7 +103,7 @@ acceptance hash bytes clue head = acceptance_of hash clue head (lineage_of bytes
 -- ---- what is accepted
 
 -- a journal is a record with this clue
-pub record IsRecordOf (clue : Digest) (item : Item) : Type 0 where
+pub record IsRecordOf (clue : Digest) (item : LineageItem) : Type 0 where
   pub kind : item.header.kind ≡ Content
   pub clue_is : item.header.clue ≡ clue
 
@@ -113,17 +113,17 @@ pub record Follows (before x : Header) : Type 0 where
   pub previous : x.clue_prev ≡ before.jsn
 
 -- each of some journals follows the one in front of it, and the first of them this one
-abbrev pub FollowOn : Header → List Item → Type 0
+abbrev pub FollowOn : Header → List LineageItem → Type 0
 FollowOn before [] = ⊤
 FollowOn before (item ∷ more) = Follows before item.header × FollowOn item.header more
 
 -- each journal but the first follows the one in front of it
-abbrev pub AreLinked : List Item → Type 0
+abbrev pub AreLinked : List LineageItem → Type 0
 AreLinked [] = ⊤
 AreLinked (item ∷ more) = FollowOn item.header more
 
 -- a journal's leaf leads along its path to a head's root, under the head's size
-abbrev pub Leads : Hash → Head → Item → Type 0
+abbrev pub Leads : Hash → Head → LineageItem → Type 0
 Leads hash head item =
     fold_bytes hash (leaf hash (headers.spelling item.header)) item.header.jsn head.size item.path ≡ Some head.root.0
 

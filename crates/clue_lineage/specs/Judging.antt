@@ -13,7 +13,7 @@ use Rattle.clue_lineage.specs.declared.answer.Run.{Run}
 use Rattle.clue_lineage.specs.declared.answer.LineageNo.{LineageNo}
 use Rattle.clue_lineage.specs.declared.answer.LineageVerdict.{LineageVerdict}
 use Rattle.clue_lineage.specs.declared.answer.LineageVerdict.TheVariants.{Unaccepted, True, Clash}
-use Rattle.clue_lineage.specs.Lineages.{Item, Lineage}
+use Rattle.clue_lineage.specs.Lineages.{LineageItem, Lineage}
 use Rattle.clue_lineage.specs.Reading.{lineage_of}
 use Rattle.clue_lineage.specs.Accepting.{acceptance, acceptance_under}
 
@@ -26,7 +26,7 @@ abbrev pub own_acceptance : Hash → List (List ℕ) → List ℕ → Digest →
 own_acceptance hash list bytes clue = acceptance hash bytes clue (own_head hash list)
 
 -- a journal of a lineage is the list's at its number
-pub record IsOf (list : List (List ℕ)) (item : Item) : Type 0 where
+pub record IsOf (list : List (List ℕ)) (item : LineageItem) : Type 0 where
   pub within : item.header.jsn < length list
   pub stands : get_or list item.header.jsn [] ≡ headers.spelling item.header
 
@@ -40,15 +40,15 @@ unfoldable pub IsTrueOf : List (List ℕ) → List ℕ → Type 0
 IsTrueOf list bytes = AreOfList list (lineage_of bytes)
 
 -- a journal's path leads to the list's root
-abbrev pub Gives : Hash → List (List ℕ) → Item → Type 0
+abbrev pub Gives : Hash → List (List ℕ) → LineageItem → Type 0
 Gives hash list item = PathGives hash list (leaf hash (headers.spelling item.header)) item.header.jsn item.path
 
 -- the parts of a journal: its leaf's digest with the path, and then its header
-abbrev pub item_parts : Hash → List (List ℕ) → Item → List Part
+abbrev pub item_parts : Hash → List (List ℕ) → LineageItem → List Part
 item_parts hash list item = placed_parts hash list (headers.spelling item.header) item.header.jsn item.path
 
 -- the parts of some journals, in their order
-abbrev pub parts_of : Hash → List (List ℕ) → List Item → List Part
+abbrev pub parts_of : Hash → List (List ℕ) → List LineageItem → List Part
 parts_of hash list items = flat_map (item_parts hash list) items
 
 -- the two strings of the first part that tells what isn't of the list; none of what doesn't read as a lineage

@@ -9,7 +9,7 @@ use Rattle.journal_record.specs.Rules.{IsHeader}
 use Rattle.proof_codec.specs.Proofs.{with_count, IsDigests}
 
 -- a journal of a lineage: its header, and its path, whose digests stand one after the other
-pub record Item : Type 0 where
+pub record LineageItem : Type 0 where
   pub header : Header
   pub path : List ℕ
 
@@ -17,14 +17,14 @@ pub record Item : Type 0 where
 pub record Lineage : Type 0 where
   pub size : ℕ
   pub clue : Digest
-  pub items : List Item
+  pub items : List LineageItem
 
 -- the bytes of a journal: its header, and its path behind the number of its digests
-unfoldable pub item_text : Item → List ℕ
+unfoldable pub item_text : LineageItem → List ℕ
 item_text item = headers.spelling item.header ++ with_count item.path
 
 -- the bytes of some journals, one after the other
-abbrev pub items_text : List Item → List ℕ
+abbrev pub items_text : List LineageItem → List ℕ
 items_text items = flat_map item_text items
 
 -- the bytes in front of the journals: version, size, clue, and how many journals there are
@@ -37,7 +37,7 @@ unfoldable pub spelling : Lineage → List ℕ
 spelling l = front_text l.size l.clue (length l.items) ++ items_text l.items
 
 -- a journal keeps the rules of a header, and its path is at most 255 whole digests
-pub record IsItem (item : Item) : Type 0 where
+pub record IsItem (item : LineageItem) : Type 0 where
   pub rules : IsHeader item.header
   pub widths : headers.HasWidths item.header
   pub path : IsDigests item.path

@@ -9,7 +9,7 @@ use Rattle.merkle_batch.specs.declared.tree.TreeErr.{TreeErr}
 use Rattle.merkle_batch.specs.declared.tree.TreeErr.TheVariants as tree_err
 use Rattle.clue_lineage.specs.declared.answer.LineageErr.{LineageErr}
 use Rattle.clue_lineage.specs.declared.answer.LineageErr.TheVariants.{NoLineage, NoMemory}
-use Rattle.clue_lineage.specs.Lineages.{Item, Lineage, spelling}
+use Rattle.clue_lineage.specs.Lineages.{LineageItem, Lineage, spelling}
 
 -- the journals of a history that have a clue, in order
 abbrev pub records_of : Digest → History → List Entry
@@ -26,7 +26,7 @@ abbrev pub shown_from : ℕ → Digest → History → List Entry
 shown_from from clue h = filter (λ e. nat_le from e.header.clue_ord) (kept_records clue h)
 
 -- a journal as a lineage shows it: its header, and its path under the root over all journals
-abbrev pub item_in : History → Entry → Item
+abbrev pub item_in : History → Entry → LineageItem
 item_in h e = record { header = e.header; path = path_in h e.header.jsn }
 
 -- the lineage of some journals of a history

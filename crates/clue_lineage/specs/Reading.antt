@@ -7,22 +7,22 @@ use Rattle.ledger_bytes.specs.declared.failure.Bad.TheVariants.{Short, Trailing,
 use Rattle.ledger_bytes.specs.Fields.{Unread, left_from, ◌>>=◌, number_at, digest_at, check, end_at}
 use Rattle.journal_record.specs.Reading.{header_at}
 use Rattle.proof_codec.specs.Reading.{digests_at, header_break}
-use Rattle.clue_lineage.specs.Lineages.{Item, Lineage, IsItem, items_text}
+use Rattle.clue_lineage.specs.Lineages.{LineageItem, Lineage, IsItem, items_text}
 
 -- the next journal, which stands at a place: a header that breaks is told by that place, and by the input's length where it is
 -- cut off
-unfoldable pub item_at : ℕ → Unread → Result (Item × Unread) Bad
+unfoldable pub item_at : ℕ → Unread → Result (LineageItem × Unread) Bad
 item_at at l = do
   header ← header_break at (header_at l)
   path ← digests_at header.1
   Ok (record { header = header.0; path = path.0 }, path.1)
 
 -- the place behind a journal
-abbrev pub behind : ℕ → Item → ℕ
+abbrev pub behind : ℕ → LineageItem → ℕ
 behind at item = at + 175 + length item.path
 
 -- the next n journals, of which the first stands at a place
-abbrev pub items_at : ℕ → ℕ → Unread → Result (List Item × Unread) Bad
+abbrev pub items_at : ℕ → ℕ → Unread → Result (List LineageItem × Unread) Bad
 items_at zero at l = Ok ([], l)
 items_at (suc n) at l = do
   item ← item_at at l
@@ -71,26 +71,26 @@ break_of TooLong = 0
 
 -- bytes spell so many journals
 pub record HasItems (n : ℕ) (bytes : List ℕ) : Type 0 where
-  pub items : List Item
+  pub items : List LineageItem
   pub count : length items ≡ n
   pub fit : All IsItem items
   pub text : bytes ≡ items_text items
 
 -- the journals that were read, and none where nothing was
-abbrev pub read_items : Result (List Item × Unread) Bad → List Item
+abbrev pub read_items : Result (List LineageItem × Unread) Bad → List LineageItem
 read_items (Ok read) = read.0
 read_items (Err bad) = []
 
 -- the journals that the bytes spell, where they spell so many
-unfoldable pub items_in : ℕ → List ℕ → List Item
+unfoldable pub items_in : ℕ → List ℕ → List LineageItem
 items_in n bytes = read_items (items_at n 0 (left_from (length bytes) bytes))
 
 -- a call on journals gives the first and leaves the others, or there are none
-abbrev pub TakesFirst : List Item → List Item → Option Item → Type 0
+abbrev pub TakesFirst : List LineageItem → List LineageItem → Option LineageItem → Type 0
 TakesFirst before after (Some item) = before ≡ item ∷ after
 TakesFirst before after None = before ≡ []
 
 -- a call on a reader passed over so many journals that were read, or met their first break
-abbrev pub Passes : {A : Type 0} → Result A Bad → Unread → Result (List Item × Unread) Bad → Type 0
-Passes (Ok done) after read = (items : List Item) × (read ≡ Ok (items, after))
+abbrev pub Passes : {A : Type 0} → Result A Bad → Unread → Result (List LineageItem × Unread) Bad → Type 0
+Passes (Ok done) after read = (items : List LineageItem) × (read ≡ Ok (items, after))
 Passes (Err bad) after read = read ≡ Err bad

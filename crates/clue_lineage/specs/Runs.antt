@@ -10,7 +10,7 @@ use Rattle.journal_record.specs.Rules.{is_no_clue}
 use Rattle.journal_record.specs.declared.header.Header.{Header}
 use Rattle.journal_record.specs.declared.header.Kind.TheVariants.{Content}
 use Rattle.ledger_model.specs.Clues.{last_of}
-use Rattle.clue_lineage.specs.Lineages.{Item, Lineage}
+use Rattle.clue_lineage.specs.Lineages.{LineageItem, Lineage}
 use Rattle.clue_lineage.specs.Accepting.{is_record_of}
 
 -- whether what bytes are read as is a record's header with a clue
@@ -67,7 +67,7 @@ abbrev pub records_between : Digest → ℕ → ℕ → List (List ℕ) → List
 records_between clue first last list = filter (is_between clue first last) list
 
 -- the headers of some journals
-abbrev pub headers_of : List Item → List (List ℕ)
+abbrev pub headers_of : List LineageItem → List (List ℕ)
 headers_of items = map (λ item. headers.spelling item.header) items
 
 -- the headers of what was read as a lineage

@@ -16,7 +16,7 @@ pub(crate) struct Item<'a> {
 }
 
 impl<'a> Model for Item<'a> {
-    ghost use Rattle.clue_lineage.specs.Lineages.{Item as Shown};
+    ghost use Rattle.clue_lineage.specs.Lineages.{LineageItem as Shown};
 
     ghost Value = { Shown };
 
@@ -32,7 +32,7 @@ pub(crate) struct Items<'a> {
 
 impl<'a> Model for Items<'a> {
     ghost use Rattle.std.specs.Prelude.{List};
-    ghost use Rattle.clue_lineage.specs.Lineages.{Item as Shown};
+    ghost use Rattle.clue_lineage.specs.Lineages.{LineageItem as Shown};
     ghost use Rattle.clue_lineage.specs.Reading.{HasItems, items_in};
 
     ghost Value = { List Shown };

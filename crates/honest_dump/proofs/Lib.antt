@@ -1,4 +1,3 @@
-pub mod Lines
 pub mod Running
 pub mod Widths
 pub mod Fewer

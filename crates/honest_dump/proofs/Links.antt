@@ -12,7 +12,6 @@ use Rattle.sha2.specs.Sha256.{sha256}
 use Rattle.tree_model.specs.Peaks.{peaks}
 use Rattle.ledger_bytes.specs.Digests.{digest}
 use Rattle.ledger_bytes.specs.declared.digest.Digest.{Digest}
-use Rattle.ledger_bytes.specs.declared.refusal.Refusal.{Refusal}
 use Rattle.clue_index.specs.Added.{states_at}
 use Rattle.journal_record.specs.Entry.{Entry}
 use Rattle.journal_record.specs.declared.header.Kind.{Kind}
@@ -40,7 +39,7 @@ use Rattle.ledger_model.specs.Step.{Step}
 use Rattle.ledger_model.specs.declared.genesis.Genesis.{Genesis}
 use Rattle.ledger_model.proofs.AcceptedLaws.{purge_own}
 use Rattle.ledger_model.proofs.EndLaws.{ends_push, ends_split}
-use Rattle.ledger_model.proofs.KeepLaws.{journals_close, journals_wider, founded_lawful, real_within}
+use Rattle.ledger_model.proofs.KeepLaws.{each_line, journals_close, journals_wider, founded_lawful, real_within}
 use Rattle.ledger_model.proofs.LawfulLaws.{point_seen, two_points}
 use Rattle.ledger_model.proofs.PreparedLaws.{id_kept}
 use Rattle.dump_model.specs.Checks.{makes_base}
@@ -49,7 +48,7 @@ use Rattle.audit_dump.specs.Ending.Late.{of_purge}
 use Rattle.honest_dump.specs.Runs.{IsOfRuns, PassesHonestly, first_blocks}
 use Rattle.honest_dump.proofs.Facts.{IsMade, all_at, all_places, next_at}
 use Rattle.honest_dump.proofs.Fewer.{first_grows, first_journals, first_lawful, first_some, rest, runs_keep}
-use Rattle.honest_dump.proofs.Running.{Places, wider, id_close, run_keeps, unrepeated}
+use Rattle.honest_dump.proofs.Running.{Places, LinePlaces, wider, id_close, run_keeps, unrepeated}
 
 -- ---- the base at a journal stays
 
@@ -142,31 +141,29 @@ links_first n h left lawful none all =
         ∙ append-nil (filter (λ end. nat_le end p) (ends_from 0 front)))
 
 module _ (scheme : Scheme) where
-  line_links : (h : History) (making : Option Making) (step : Step) (what : Result Line Refusal) (e : Entry) → Places scheme h making step what e → Links h e
-  unfolding append_with append_header member_job member_header occult_job occult_header clue_occult_job clue_occult_header purge_job purge_header time_header
-  line_links h making step (Err refusal) e p = let never = p.placed in absurd cc
-  line_links h making step (Ok (line.Append member clue content proof number)) e p = subst (Links h) (unrepeated _ _ e p.placed).1 (λ purge. absurd cc)
-  line_links h making step (Ok (line.NewMember number key proof)) e p = subst (Links h) (same_Some _ e p.placed) (λ purge. absurd cc)
-  line_links h making step (Ok line.Anchor) e p = by_stamp (stamp_of step) p.placed where
-    by_stamp : (o : Option Stamp) → option_map (time_journal (size h)) o ≡ Some e → Links h e
-    by_stamp None placed = absurd cc
-    by_stamp (Some s) placed = subst (Links h) (same_Some _ e placed) (λ purge. absurd cc)
-  line_links h making step (Ok (line.Occult target leaf given)) e p = subst (Links h) (same_Some _ e p.placed) (λ purge. absurd cc)
-  line_links h making step (Ok (line.OccultClue name count given)) e p = subst (Links h) (same_Some _ e p.placed) (λ purge. absurd cc)
-  line_links h making step (Ok (line.Purge q told given)) e p =
-      let message = purge_request_digest_of (id h) q told.0 in
-      let own = purge_own real_limits real_within h q told (map (λ (by : SaidApproval). approval_of scheme by.member message by.proof) given) p.accepted told p.lawful.journals_are in
-      subst (Links h) (same_Some _ e p.placed) (λ purge. (own.before, refl))
-  line_links h making step (Ok (line.Get n)) e p = let never = p.placed in absurd cc
-  line_links h making step (Ok (line.Prove n)) e p = let never = p.placed in absurd cc
-  line_links h making step (Ok (line.Extend which m)) e p = let never = p.placed in absurd cc
-  line_links h making step (Ok (line.Clue clue)) e p = let never = p.placed in absurd cc
-  line_links h making step (Ok line.Head) e p = let never = p.placed in absurd cc
+  stamp_links : (h : History) (o : Option Stamp) (e : Entry) → option_map (time_journal (size h)) o ≡ Some e → Links h e
+  unfolding time_header
+  stamp_links h None e placed = absurd cc
+  stamp_links h (Some s) e placed = subst (Links h) (same_Some _ e placed) (λ purge. absurd cc)
 
-  links_placed : (h : History) (making : Option Making) (step : Step) (what : Result Line Refusal) (e : Entry) → Places scheme h making step what e → AllLink h → AllLink (wider h e)
-  links_placed h making step what e p all =
+  line_links : (h : History) (making : Option Making) (step : Step) (said : Line) (e : Entry) → LinePlaces scheme h making step said e → Links h e
+  unfolding append_with append_header member_job member_header occult_job occult_header clue_occult_job clue_occult_header purge_job purge_header
+  line_links h making step said e =
+      each_line scheme (id h) (λ said job. Places h making step said job e → Links h e) (λ member clue content proof number p. subst (Links h) (unrepeated _ _ e p.placed).1 (λ purge. absurd cc))
+      (λ number key proof p. subst (Links h) (same_Some _ e p.placed) (λ purge. absurd cc)) (λ p. stamp_links h (stamp_of step) e p.placed)
+      (λ target leaf given p. subst (Links h) (same_Some _ e p.placed) (λ purge. absurd cc))
+      (λ name count given p. subst (Links h) (same_Some _ e p.placed) (λ purge. absurd cc)) purges (λ said query p. let never = p.placed in absurd cc) said
+    where
+      purges : (q : ℕ) (told : Digest) (given : List SaidApproval) → Places h making step (line.Purge q told given) (purge_job scheme (id h) q told given) e → Links h e
+      purges q told given p =
+          let message = purge_request_digest_of (id h) q told.0 in
+          let own = purge_own real_limits real_within h q told (map (λ (by : SaidApproval). approval_of scheme by.member message by.proof) given) p.accepted told p.lawful.journals_are in
+          subst (Links h) (same_Some _ e p.placed) (λ purge. (own.before, refl))
+
+  links_placed : (h : History) (making : Option Making) (step : Step) (said : Line) (e : Entry) → LinePlaces scheme h making step said e → AllLink h → AllLink (wider h e)
+  links_placed h making step said e p all =
       let more = journals_wider h e in
-      subst (All (Links (wider h e))) (sym more) (links_grow h (wider h e) (omega (arith, ap length more, length-append (journals h) (e ∷ []))) (base_wider h e) (journals h ++ e ∷ []) (All-push (Links h) (journals h) e all (line_links h making step what e p)))
+      subst (All (Links (wider h e))) (sym more) (links_grow h (wider h e) (omega (arith, ap length more, length-append (journals h) (e ∷ []))) (base_wider h e) (journals h ++ e ∷ []) (All-push (Links h) (journals h) e all (line_links h making step said e p)))
 
   links_new : (genesis : Genesis) → AllLink (new_ledger genesis)
   unfolding genesis_header

@@ -7,7 +7,6 @@ use Rattle.std.proofs.lemmas.Bool.{and_parts, leb-true}
 use Rattle.std.proofs.lemmas.List.Elements.{All-nil, All-cons}
 use Rattle.std.proofs.lemmas.Option.{same_Some}
 use Rattle.ledger_bytes.specs.declared.limits.TheConstants.{APPROVAL_LIMIT, CONTENT_LIMIT, NAME_LIMIT, PROOF_LIMIT}
-use Rattle.ledger_bytes.specs.declared.refusal.Refusal.{Refusal}
 use Rattle.journal_record.specs.Entry.{Entry}
 use Rattle.journal_record.specs.declared.stamp.Stamp.{Stamp}
 use Rattle.script_lines.specs.Limits.{fits_approvals}
@@ -24,7 +23,7 @@ use Rattle.ledger_model.specs.Limits.{real_limits}
 use Rattle.ledger_model.specs.Scheme.{Scheme}
 use Rattle.ledger_model.specs.Step.{Step}
 use Rattle.ledger_model.specs.declared.genesis.Genesis.{Genesis}
-use Rattle.ledger_model.proofs.KeepLaws.{journals_close, journals_wider, founded_lawful}
+use Rattle.ledger_model.proofs.KeepLaws.{each_line, journals_close, journals_wider, founded_lawful}
 use Rattle.ledger_model.proofs.LawfulLaws.{some_journal}
 use Rattle.ledger_model.proofs.PreparedLaws.{id_kept}
 use Rattle.audit_dump.specs.Approvals.{IsPlacedBy}
@@ -32,7 +31,7 @@ use Rattle.audit_dump.specs.Placed.{shown_whole}
 use Rattle.audit_dump.proofs.Placed.{record_is, occult_is, clue_occult_is, member_is, purge_is}
 use Rattle.honest_dump.specs.Runs.{IsOfRuns, first_blocks}
 use Rattle.honest_dump.proofs.Fewer.{first_grows, first_journals, first_some, rest, runs_keep}
-use Rattle.honest_dump.proofs.Running.{Places, wider, id_close, run_keeps, unrepeated}
+use Rattle.honest_dump.proofs.Running.{Places, LinePlaces, wider, id_close, run_keeps, unrepeated}
 
 -- ---- something holds of each journal behind those in front of it
 
@@ -68,30 +67,24 @@ all_short given fits = by given (and_parts (nat_le (length given) APPROVAL_LIMIT
       All-cons (λ (a : SaidApproval). length a.proof ≤ PROOF_LIMIT) g gs (leb-true (length g.proof) PROOF_LIMIT both.0) (by gs both.1)
 
 module _ (scheme : Scheme) where
-  line_placed : (h : History) (making : Option Making) (step : Step) (what : Result Line Refusal) (e : Entry) → Places scheme h making step what e → IsPlaced scheme (id h) (journals h) e
-  unfolding append_with append_header member_job member_header occult_job occult_header clue_occult_job clue_occult_header purge_job purge_header time_header
-  line_placed h making step (Err refusal) e p = let never = p.placed in absurd cc
-  line_placed h making step (Ok (line.Append member clue content proof number)) e p =
-      let parts = and_parts (nat_le (length clue) NAME_LIMIT && nat_le (length content) CONTENT_LIMIT) (nat_le (length proof) PROOF_LIMIT) p.fits in
-      subst (IsPlaced scheme (id h) (journals h)) (unrepeated _ _ e p.placed).1 (record_is scheme real_limits h member (clue_of clue) content proof number (leb-true (length proof) PROOF_LIMIT parts.1) p.accepted)
-  line_placed h making step (Ok (line.NewMember number key proof)) e p =
-      subst (IsPlaced scheme (id h) (journals h)) (same_Some _ e p.placed) (member_is scheme real_limits h number key proof (leb-true (length proof) PROOF_LIMIT p.fits) p.accepted)
-  line_placed h making step (Ok line.Anchor) e p = by_stamp (stamp_of step) p.placed where
-    by_stamp : (o : Option Stamp) → option_map (time_journal (size h)) o ≡ Some e → IsPlaced scheme (id h) (journals h) e
-    by_stamp None placed = absurd cc
-    by_stamp (Some s) placed = subst (IsPlaced scheme (id h) (journals h)) (same_Some _ e placed) refl
-  line_placed h making step (Ok (line.Occult target leaf given)) e p =
-      subst (IsPlaced scheme (id h) (journals h)) (same_Some _ e p.placed) (occult_is scheme real_limits h target leaf given (all_short given p.fits) p.accepted)
-  line_placed h making step (Ok (line.OccultClue name count given)) e p =
-      let parts = and_parts (nat_le (length name) NAME_LIMIT) (fits_approvals given) p.fits in
-      subst (IsPlaced scheme (id h) (journals h)) (same_Some _ e p.placed) (clue_occult_is scheme real_limits h name count given (all_short given parts.1) p.accepted)
-  line_placed h making step (Ok (line.Purge q told given)) e p =
-      subst (IsPlaced scheme (id h) (journals h)) (same_Some _ e p.placed) (purge_is scheme real_limits h q told given (all_short given p.fits) p.accepted)
-  line_placed h making step (Ok (line.Get n)) e p = let never = p.placed in absurd cc
-  line_placed h making step (Ok (line.Prove n)) e p = let never = p.placed in absurd cc
-  line_placed h making step (Ok (line.Extend which m)) e p = let never = p.placed in absurd cc
-  line_placed h making step (Ok (line.Clue clue)) e p = let never = p.placed in absurd cc
-  line_placed h making step (Ok line.Head) e p = let never = p.placed in absurd cc
+  stamp_placed : (h : History) (o : Option Stamp) (e : Entry) → option_map (time_journal (size h)) o ≡ Some e → IsPlaced scheme (id h) (journals h) e
+  unfolding time_header
+  stamp_placed h None e placed = absurd cc
+  stamp_placed h (Some s) e placed = subst (IsPlaced scheme (id h) (journals h)) (same_Some _ e placed) refl
+
+  line_placed : (h : History) (making : Option Making) (step : Step) (said : Line) (e : Entry) → LinePlaces scheme h making step said e → IsPlaced scheme (id h) (journals h) e
+  unfolding append_with append_header member_job member_header occult_job occult_header clue_occult_job clue_occult_header purge_job purge_header
+  line_placed h making step said e =
+      each_line scheme (id h) (λ said job. Places h making step said job e → IsPlaced scheme (id h) (journals h) e) record_placed
+      (λ number key proof p. subst (IsPlaced scheme (id h) (journals h)) (same_Some _ e p.placed) (member_is scheme real_limits h number key proof (leb-true (length proof) PROOF_LIMIT p.fits) p.accepted)) (λ p. stamp_placed h (stamp_of step) e p.placed)
+      (λ target leaf given p. subst (IsPlaced scheme (id h) (journals h)) (same_Some _ e p.placed) (occult_is scheme real_limits h target leaf given (all_short given p.fits) p.accepted))
+      (λ name count given p. subst (IsPlaced scheme (id h) (journals h)) (same_Some _ e p.placed) (clue_occult_is scheme real_limits h name count given (all_short given (and_parts (nat_le (length name) NAME_LIMIT) (fits_approvals given) p.fits).1) p.accepted))
+      (λ q told given p. subst (IsPlaced scheme (id h) (journals h)) (same_Some _ e p.placed) (purge_is scheme real_limits h q told given (all_short given p.fits) p.accepted)) (λ said query p. let never = p.placed in absurd cc) said
+    where
+      record_placed : (member : ℕ) (clue content proof : List ℕ) (number : ℕ) → Places h making step (line.Append member clue content proof number) (append_with scheme (id h) member (clue_of clue) content proof number) e → IsPlaced scheme (id h) (journals h) e
+      record_placed member clue content proof number p =
+          let parts = and_parts (nat_le (length clue) NAME_LIMIT && nat_le (length content) CONTENT_LIMIT) (nat_le (length proof) PROOF_LIMIT) p.fits in
+          subst (IsPlaced scheme (id h) (journals h)) (unrepeated _ _ e p.placed).1 (record_is scheme real_limits h member (clue_of clue) content proof number (leb-true (length proof) PROOF_LIMIT parts.1) p.accepted)
 
   -- ---- along a run
 
@@ -106,11 +99,11 @@ module _ (scheme : Scheme) where
     id_wider : (h : History) (e : Entry) → 1 ≤ size h → id (wider h e) ≡ id h
     id_wider h e some = id_kept h (wider h e) (record { more = e ∷ []; journals_are = journals_wider h e; blocks = []; closed_are = sym (append-nil h.closed) }) some
 
-    placed_more : (h : History) (making : Option Making) (step : Step) (what : Result Line Refusal) (e : Entry) → Places scheme h making step what e → ArePlaced h → ArePlaced (wider h e)
-    placed_more h making step what e p a = (
+    placed_more : (h : History) (making : Option Making) (step : Step) (said : Line) (e : Entry) → LinePlaces scheme h making step said e → ArePlaced h → ArePlaced (wider h e)
+    placed_more h making step said e p a = (
       id_wider h e (some_journal (journals h) p.lawful.journals_are) ∙ a.0,
       subst (EachBehind (IsPlaced scheme known) []) (sym (journals_wider h e))
-          (each_more (IsPlaced scheme known) [] (journals h) e a.1 (subst (λ (i : List ℕ). IsPlaced scheme i (journals h) e) a.0 (line_placed h making step what e p))),
+          (each_more (IsPlaced scheme known) [] (journals h) e a.1 (subst (λ (i : List ℕ). IsPlaced scheme i (journals h) e) a.0 (line_placed h making step said e p))),
     )
 
   placed_new : (genesis : Genesis) → ArePlaced (id (new_ledger genesis)) (new_ledger genesis)

@@ -1,14 +1,14 @@
 -- What each journal that is placed keeps true holds of each history that a run makes.
 use Rattle.std.specs.Prelude.{nat_le}
-use Rattle.std.proofs.Common.{◌≡◌, ℕ, ◌||◌, true, false, cond, List, [], ◌∷◌, ◌++◌, length, Option, Some, None, Result, refl, sym, ap, ◌∙◌, subst}
+use Rattle.std.proofs.Common.{◌≡◌, ℕ, ◌||◌, true, false, cond, List, [], ◌∷◌, ◌++◌, length, Option, Some, None, Result, Ok, Err, refl, sym, ap, ◌∙◌, subst}
 use Rattle.std.proofs.lemmas.Option.{same_Some}
 use Rattle.ledger_bytes.specs.declared.limits.TheConstants.{BLOCK_LIMIT}
 use Rattle.ledger_bytes.specs.declared.refusal.Refusal.{Refusal}
 use Rattle.journal_record.specs.Entry.{Entry}
 use Rattle.script_lines.specs.Grammar.{spoken_line}
-use Rattle.script_lines.specs.Limits.{fits_what}
+use Rattle.script_lines.specs.Limits.{fits_line, fits_what}
 use Rattle.script_lines.specs.declared.line.Line.{Line}
-use Rattle.script_lines.proofs.Fitting.{spoken_fits}
+use Rattle.script_lines.proofs.Fitting.{LineFits, WhatFits, spoken_fits, spoken_counts}
 use Rattle.time_peg.specs.Entries.{Making, NotaryState}
 use Rattle.ledger_model.specs.Anchors.{stamp_of}
 use Rattle.ledger_model.specs.History.{History, history, journals, id, first_leaf_digest, close}
@@ -25,21 +25,24 @@ use Rattle.ledger_model.specs.Took.{notary_after, Took, TookAll}
 use Rattle.ledger_model.specs.declared.job.Job.{Job}
 use Rattle.ledger_model.proofs.AcceptedLaws.{IsNew}
 use Rattle.ledger_model.proofs.KeepLaws.{journals_close, journals_wider, close_lawful, step_lawful, steps_lawful}
-use Rattle.honest_dump.proofs.Lines.{WhatFits, spoken_has}
 
 -- the history with a journal more, which waits
 abbrev pub wider : History → Entry → History
 wider h e = history h.closed (h.waiting ++ e ∷ [])
 
--- a line that is read as this places a journal behind a history
-pub record Places (scheme : Scheme) (h : History) (making : Option Making) (step : Step) (what : Result Line Refusal) (e : Entry) : Type 0 where
+-- a line places a journal behind a history, by this job
+pub record Places (h : History) (making : Option Making) (step : Step) (said : Line) (job : Job) (e : Entry) : Type 0 where
   pub lawful : IsLawful h
   pub more : AreLawful (journals h ++ e ∷ [])
-  pub fits : fits_what what ≡ true
-  pub short : WhatFits what
-  pub accepted : own_refusal real_limits h (job_for scheme (id h) what) ≡ None
-  pub placed : placed_journal h (stamp_of step) (job_for scheme (id h) what) ≡ Some e
-  pub changes : ChangesBy h making step (job_for scheme (id h) what)
+  pub fits : fits_line said ≡ true
+  pub short : LineFits said
+  pub accepted : own_refusal real_limits h job ≡ None
+  pub placed : placed_journal h (stamp_of step) job ≡ Some e
+  pub changes : ChangesBy h making step job
+
+-- .. by the job that it asks for
+abbrev pub LinePlaces : Scheme → History → Option Making → Step → Line → Entry → Type 0
+LinePlaces scheme h making step said e = Places h making step said (job_for scheme (id h) (Ok said)) e
 
 pub id_close : (h : History) → id (close h) ≡ id h
 unfolding id
@@ -51,7 +54,7 @@ unrepeated None record_of e is = (refl, same_Some record_of e is)
 unrepeated (Some n) record_of e is = absurd cc
 
 module _ (scheme : Scheme) (Keeps : History → Type 0) (ended : (h : History) → Keeps h → Keeps (close h))
-    (placing : (h : History) (making : Option Making) (step : Step) (what : Result Line Refusal) (e : Entry) → Places scheme h making step what e → Keeps h → Keeps (wider h e)) where
+    (placing : (h : History) (making : Option Making) (step : Step) (said : Line) (e : Entry) → LinePlaces scheme h making step said e → Keeps h → Keeps (wider h e)) where
   settled : (job : Job) (h : History) → Keeps h → Keeps (settled_history job h)
   settled job h k = elim (closes_after job || nat_le BLOCK_LIMIT (length h.waiting)) as (λ full. Keeps (cond full (close h) h)) [ true ↦ ended h k | false ↦ k ]
 
@@ -70,8 +73,9 @@ module _ (scheme : Scheme) (Keeps : History → Type 0) (ended : (h : History) �
       → (r : Option Refusal) → own_refusal real_limits g job ≡ r → (o : Option Entry) → placed_journal g (stamp_of step) job ≡ o → Keeps (settled_history job (after_judgement r o g))
   by_judgement g making step what job is l fits short changes later k (Some why) r o p = settled job g k
   by_judgement g making step what job is l fits short changes later k None r None p = settled job g k
-  by_judgement g making step what job is l fits short changes later k None r (Some e) p =
-      settled job (wider g e) (placing g making step what e (record {
+  by_judgement g making step (Err refusal) job is l fits short changes later k None r (Some e) p = let never = ap (own_refusal real_limits g) (sym is) ∙ r in absurd cc
+  by_judgement g making step (Ok said) job is l fits short changes later k None r (Some e) p =
+      settled job (wider g e) (placing g making step said e (record {
         lawful = l;
         more = subst AreLawful (ap (λ x. journals (settled_history job (after_judgement x (placed_journal g (stamp_of step) job) g))) r ∙ ap (λ x. journals (settled_history job (after_judgement None x g))) p ∙ settled_journals job (wider g e) ∙ journals_wider g e) later.journals_are;
         fits = fits;
@@ -88,7 +92,7 @@ module _ (scheme : Scheme) (Keeps : History → Type 0) (ended : (h : History) �
       let job = job_for scheme (id h) what in
       let g = judged_at h job in
       let there = judged_journals job h l in
-      by_judgement g making step what job (ap (λ (i : List ℕ). job_for scheme i what) (sym there.1)) there.0 (spoken_fits step.line) (spoken_has step.line) attends.list (step_lawful scheme h step l) (judged job h k)
+      by_judgement g making step what job (ap (λ (i : List ℕ). job_for scheme i what) (sym there.1)) there.0 (spoken_fits step.line) (spoken_counts step.line) attends.list (step_lawful scheme h step l) (judged job h k)
       (own_refusal real_limits g job) refl (placed_journal g (stamp_of step) job) refl
 
   steps_keep : (h : History) (n m : NotaryState) (steps : List Step) → IsLawful h → Took scheme h n steps m → Keeps h → Keeps (after_steps scheme h steps)

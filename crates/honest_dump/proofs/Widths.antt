@@ -14,7 +14,6 @@ use Rattle.ledger_bytes.specs.declared.tag.Tag.TheVariants as tag
 use Rattle.sha2.proofs.Facts256.{length-sha256}
 use Rattle.ledger_bytes.specs.declared.digest.Digest.{Digest}
 use Rattle.ledger_bytes.specs.declared.limits.TheConstants.{APPROVAL_LIMIT, MEMBER_LIMIT, CONTENT_LIMIT, NAME_LIMIT, PROOF_LIMIT}
-use Rattle.ledger_bytes.specs.declared.refusal.Refusal.{Refusal}
 use Rattle.journal_record.specs.Approval.{approval_bytes, who_of}
 use Rattle.journal_record.specs.Entry.{Entry, content_digest_of, who_digest_of}
 use Rattle.journal_record.specs.Header.{HasWidths, spelling}
@@ -38,12 +37,13 @@ use Rattle.ledger_model.specs.Limits.{real_limits}
 use Rattle.ledger_model.specs.Scheme.{Scheme}
 use Rattle.ledger_model.specs.Step.{Step}
 use Rattle.ledger_model.specs.declared.genesis.Genesis.{Genesis}
+use Rattle.ledger_model.specs.declared.job.Job.TheVariants.{Anchor}
 use Rattle.ledger_model.proofs.AcceptedLaws.{record_next, member_next, occult_own, clue_occult_next, purge_own, stamp_few}
 use Rattle.ledger_model.proofs.FitLaws.{size_few}
-use Rattle.ledger_model.proofs.KeepLaws.{journals_close, journals_wider, real_within}
+use Rattle.ledger_model.proofs.KeepLaws.{each_line, journals_close, journals_wider, real_within}
 use Rattle.ledger_model.proofs.LawfulLaws.{numbers_few}
 use Rattle.ledger_model.proofs.PegLaws.{stamped_fits}
-use Rattle.honest_dump.proofs.Running.{Places, unrepeated, wider}
+use Rattle.honest_dump.proofs.Running.{Places, LinePlaces, unrepeated, wider}
 
 -- a journal's numbers fit their fields, its digests have 32 bytes, and its who isn't too long
 pub record HasSizes (e : Entry) : Type 0 where
@@ -97,10 +97,9 @@ version_few number len = elim (number == 0 && nat_le len 65_536) as (λ first. c
 -- ---- the journal that a line places
 
 module _ (scheme : Scheme) (h : History) (making : Option Making) (step : Step) where
-  placed_sizes : (what : Result Line Refusal) (e : Entry) → Places scheme h making step what e → HasSizes e
-  unfolding append_with append_header member_job member_header occult_job occult_header clue_occult_job clue_occult_header purge_job purge_header time_header
-  placed_sizes (Err refusal) e p = let never = p.placed in absurd cc
-  placed_sizes (Ok (line.Append member clue content proof number)) e p =
+  record_sizes : (e : Entry) (member : ℕ) (clue content proof : List ℕ) (number : ℕ) → Places h making step (line.Append member clue content proof number) (append_with scheme (id h) member (clue_of clue) content proof number) e → HasSizes e
+  unfolding append_with append_header
+  record_sizes e member clue content proof number p =
       let parts = and_parts (nat_le (length clue) NAME_LIMIT && nat_le (length content) CONTENT_LIMIT) (nat_le (length proof) PROOF_LIMIT) p.fits in
       let front = and_parts (nat_le (length clue) NAME_LIMIT) (nat_le (length content) CONTENT_LIMIT) parts.0 in
       let request = request_with (id h) member (clue_of clue) content number in
@@ -114,7 +113,7 @@ module _ (scheme : Scheme) (h : History) (making : Option Making) (step : Step) 
           member = omega (arith, ltb-true member MEMBER_LIMIT next.layout.member);
           clue_ord = omega (arith, ord_few h (clue_of clue), next.below);
           clue_prev = omega (arith, prev_few (size h) (next_ordinal h (clue_of clue)) (last_journal h (clue_of clue)) next.layout.clue_prev, size_few h p.lawful);
-          a = p.short;
+          a = p.short.1;
           b = omega arith;
           content_len = omega (arith, leb-true (length content) CONTENT_LIMIT front.1);
           clue = clue_wide clue;
@@ -124,7 +123,10 @@ module _ (scheme : Scheme) (h : History) (making : Option Making) (step : Step) 
         };
         who = who_few by (leb-true (length proof) PROOF_LIMIT parts.1);
       })
-  placed_sizes (Ok (line.NewMember number key proof)) e p =
+
+  member_sizes : (e : Entry) (number : ℕ) (key : Digest) (proof : List ℕ) → Places h making step (line.NewMember number key proof) (member_job scheme (id h) number key proof) e → HasSizes e
+  unfolding member_job member_header
+  member_sizes e number key proof p =
       let by = approval_of scheme 0 (member_request_digest_of (id h) number key.0) proof in
       let next = member_next real_limits real_within h number key by p.accepted p.lawful.journals_are in
       subst HasSizes (same_Some _ e p.placed) (record {
@@ -144,29 +146,33 @@ module _ (scheme : Scheme) (h : History) (making : Option Making) (step : Step) 
         };
         who = who_few by (leb-true (length proof) PROOF_LIMIT p.fits);
       })
-  placed_sizes (Ok line.Anchor) e p = by_stamp (stamp_of step) refl p.placed where
-    by_stamp : (o : Option Stamp) → stamp_of step ≡ o → option_map (time_journal (size h)) o ≡ Some e → HasSizes e
-    by_stamp None is placed = absurd cc
-    by_stamp (Some s) is placed =
-        let fits = stamped_fits making h step s p.accepted is p.changes in
-        subst HasSizes (same_Some _ e placed) (record {
-          widths = record {
-            version = omega arith;
-            jsn = omega (arith, size_few h p.lawful);
-            member = omega arith;
-            clue_ord = omega arith;
-            clue_prev = omega arith;
-            a = omega (arith, stamp_few step s is);
-            b = fits.0;
-            content_len = omega arith;
-            clue = refl;
-            link = fits.1;
-            content_digest = length-sha256 _;
-            who_digest = length-sha256 _;
-          };
-          who = omega arith;
-        })
-  placed_sizes (Ok (line.Occult target leaf given)) e p =
+
+  stamp_sizes : (e : Entry) → Places h making step line.Anchor Anchor e → (o : Option Stamp) → stamp_of step ≡ o → option_map (time_journal (size h)) o ≡ Some e → HasSizes e
+  unfolding time_header
+  stamp_sizes e p None is placed = absurd cc
+  stamp_sizes e p (Some s) is placed =
+      let fits = stamped_fits making h step s p.accepted is p.changes in
+      subst HasSizes (same_Some _ e placed) (record {
+        widths = record {
+          version = omega arith;
+          jsn = omega (arith, size_few h p.lawful);
+          member = omega arith;
+          clue_ord = omega arith;
+          clue_prev = omega arith;
+          a = omega (arith, stamp_few step s is);
+          b = fits.0;
+          content_len = omega arith;
+          clue = refl;
+          link = fits.1;
+          content_digest = length-sha256 _;
+          who_digest = length-sha256 _;
+        };
+        who = omega arith;
+      })
+
+  occult_sizes : (e : Entry) (target : ℕ) (leaf : Digest) (given : List SaidApproval) → Places h making step (line.Occult target leaf given) (occult_job scheme (id h) target leaf given) e → HasSizes e
+  unfolding occult_job occult_header
+  occult_sizes e target leaf given p =
       let message = occult_request_digest_of (id h) target leaf.0 in
       let own = occult_own real_limits real_within h target leaf (map (shown scheme message) given) p.accepted in
       let wide : length leaf.0 ≡ 32 = ap length own.leaf_is ∙ leaf_wide (journals h) target own.before in
@@ -187,7 +193,10 @@ module _ (scheme : Scheme) (h : History) (making : Option Making) (step : Step) 
         };
         who = whos_few scheme message given p.fits;
       })
-  placed_sizes (Ok (line.OccultClue name count given)) e p =
+
+  clue_occult_sizes : (e : Entry) (name : List ℕ) (count : ℕ) (given : List SaidApproval) → Places h making step (line.OccultClue name count given) (clue_occult_job scheme (id h) name count given) e → HasSizes e
+  unfolding clue_occult_job clue_occult_header
+  clue_occult_sizes e name count given p =
       let parts = and_parts (nat_le (length name) NAME_LIMIT) (fits_approvals given) p.fits in
       let message = clue_occult_request_digest_of (id h) (clue_of name).0 count in
       let next = clue_occult_next real_limits real_within h (clue_of name) count (map (shown scheme message) given) p.accepted p.lawful.journals_are in
@@ -208,7 +217,10 @@ module _ (scheme : Scheme) (h : History) (making : Option Making) (step : Step) 
         };
         who = whos_few scheme message given parts.1;
       })
-  placed_sizes (Ok (line.Purge q told given)) e p =
+
+  purge_sizes : (e : Entry) (q : ℕ) (told : Digest) (given : List SaidApproval) → Places h making step (line.Purge q told given) (purge_job scheme (id h) q told given) e → HasSizes e
+  unfolding purge_job purge_header
+  purge_sizes e q told given p =
       let message = purge_request_digest_of (id h) q told.0 in
       let own = purge_own real_limits real_within h q told (map (shown scheme message) given) p.accepted told p.lawful.journals_are in
       subst HasSizes (same_Some _ e p.placed) (record {
@@ -228,11 +240,11 @@ module _ (scheme : Scheme) (h : History) (making : Option Making) (step : Step) 
         };
         who = whos_few scheme message given p.fits;
       })
-  placed_sizes (Ok (line.Get n)) e p = let never = p.placed in absurd cc
-  placed_sizes (Ok (line.Prove n)) e p = let never = p.placed in absurd cc
-  placed_sizes (Ok (line.Extend which m)) e p = let never = p.placed in absurd cc
-  placed_sizes (Ok (line.Clue name)) e p = let never = p.placed in absurd cc
-  placed_sizes (Ok line.Head) e p = let never = p.placed in absurd cc
+
+  placed_sizes : (said : Line) (e : Entry) → LinePlaces scheme h making step said e → HasSizes e
+  placed_sizes said e =
+      each_line scheme (id h) (λ said job. Places h making step said job e → HasSizes e) (record_sizes e) (member_sizes e) (λ p. stamp_sizes e p (stamp_of step) refl p.placed) (occult_sizes e) (clue_occult_sizes e) (purge_sizes e)
+      (λ said query p. let never = p.placed in absurd cc) said
 
 -- ---- a history
 
@@ -242,8 +254,8 @@ HaveSizes h = All HasSizes (journals h)
 pub sizes_ended : (h : History) → HaveSizes h → HaveSizes (close h)
 sizes_ended h s = subst (All HasSizes) (sym (journals_close h)) s
 
-pub sizes_placed : (scheme : Scheme) (h : History) (making : Option Making) (step : Step) (what : Result Line Refusal) (e : Entry) → Places scheme h making step what e → HaveSizes h → HaveSizes (wider h e)
-sizes_placed scheme h making step what e p s = subst (All HasSizes) (sym (journals_wider h e)) (All-push HasSizes (journals h) e s (placed_sizes scheme h making step what e p))
+pub sizes_placed : (scheme : Scheme) (h : History) (making : Option Making) (step : Step) (said : Line) (e : Entry) → LinePlaces scheme h making step said e → HaveSizes h → HaveSizes (wider h e)
+sizes_placed scheme h making step said e p s = subst (All HasSizes) (sym (journals_wider h e)) (All-push HasSizes (journals h) e s (placed_sizes scheme h making step said e p))
 
 pub sizes_new : (genesis : Genesis) → HasKeys genesis → HaveSizes (new_ledger genesis)
 unfolding genesis_header

@@ -4,8 +4,8 @@ use Rattle.ledger_book.specs.declared.prepared.Prepared.{Prepared}
 use Rattle.lane_work.specs.declared.kinds.Made.{Made}
 use Rattle.lane_work.specs.declared.taker.Flow.{Flow}
 use Rattle.lane_work.specs.declared.taker.Flow.TheVariants.{GoOn}
-use Rattle.lane_work.specs.declared.taking.State.{State}
-use Rattle.lane_work.specs.declared.taking.State.TheVariants.{Going, Stopped, Lacking}
+use Rattle.lane_work.specs.declared.offering.State.{State}
+use Rattle.lane_work.specs.declared.offering.State.TheVariants.{Going, Stopped, Lacking}
 use Rattle.lane_work.specs.Offering.{Goes, GoesSome, Stops, OffersMade, Hands, Comes}
 
 module _ {S X : Type 0} (offers : S → X → Flow → S → Type 0) where

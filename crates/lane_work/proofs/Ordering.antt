@@ -17,8 +17,8 @@ use Rattle.lane_work.specs.declared.kinds.LaneLine.{LaneLine}
 use Rattle.lane_work.specs.declared.kinds.Made.{Made}
 use Rattle.lane_work.specs.declared.taker.Flow.{Flow}
 use Rattle.lane_work.specs.declared.taker.Flow.TheVariants.{GoOn, Stop}
-use Rattle.lane_work.specs.declared.taking.State.{State}
-use Rattle.lane_work.specs.declared.taking.State.TheVariants.{Going, Stopped, Lacking}
+use Rattle.lane_work.specs.declared.offering.State.{State}
+use Rattle.lane_work.specs.declared.offering.State.TheVariants.{Going, Stopped, Lacking}
 use Rattle.lane_work.specs.Making.{said_of, IsItemOf, MayBeItem, AllMade, lines_of}
 use Rattle.lane_work.specs.Orders.{numbered, IsOrderOf}
 use Rattle.lane_work.specs.Offering.{Goes, GoesSome, Stops, OffersMade, OffersLine, Comes, Came, RanAlone, LackedAlone, RunsAll, RunsSome}

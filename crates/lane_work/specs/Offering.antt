@@ -7,8 +7,8 @@ use Rattle.lane_work.specs.declared.kinds.LaneLine.{LaneLine}
 use Rattle.lane_work.specs.declared.kinds.Made.{Made}
 use Rattle.lane_work.specs.declared.taker.Flow.{Flow}
 use Rattle.lane_work.specs.declared.taker.Flow.TheVariants.{GoOn, Stop}
-use Rattle.lane_work.specs.declared.taking.State.{State}
-use Rattle.lane_work.specs.declared.taking.State.TheVariants.{Going, Stopped, Lacking}
+use Rattle.lane_work.specs.declared.offering.State.{State}
+use Rattle.lane_work.specs.declared.offering.State.TheVariants.{Going, Stopped, Lacking}
 use Rattle.lane_work.specs.Making.{IsItemOf}
 use Rattle.lane_work.specs.Orders.{numbered, IsOrderOf}
 

@@ -14,9 +14,9 @@ use crate::divide::{counts, divide};
 use crate::gate::Gate;
 use crate::hands::{LaneJob, Room};
 use crate::kinds::{LaneLine, Made};
+use crate::offering::State;
 use crate::scoped::{Lent, side_by_side};
 use crate::taker::Taker;
-use crate::taking::State;
 use crate::tools::Tools;
 use intake_queue::{Intake, LanePass, TakerPass};
 use ledger_bytes::{Digest, NoMemory};
@@ -26,7 +26,7 @@ use std::sync::Wait;
 use std::thread::Threads;
 
 // Each lane's pass with its lines.
-fn jobs_of(
+fn lane_jobs(
     alloc: Global,
     passes: Vec<LanePass<Made>>,
     lanes: Vec<Vec<LaneLine>>,
@@ -57,7 +57,7 @@ fn take_back<T>(x: &mut T)
 {}
 
 // Runs the workers and the taker.
-fn beside<R: Threads + Wait + Sync, V: Verifier, G: Gate, T: Taker>(
+fn run_workers<R: Threads + Wait + Sync, V: Verifier, G: Gate, T: Taker>(
     tools: &Tools<R, V, G>,
     id: &Digest,
     intake: &Intake<Made>,
@@ -82,7 +82,7 @@ fn beside<R: Threads + Wait + Sync, V: Verifier, G: Gate, T: Taker>(
 }
 
 // Runs the workers and the taker, and closes the queue.
-fn drive<R: Threads + Wait + Sync, V: Verifier, G: Gate, T: Taker>(
+fn run_and_close<R: Threads + Wait + Sync, V: Verifier, G: Gate, T: Taker>(
     tools: &Tools<R, V, G>,
     id: &Digest,
     intake: Intake<Made>,
@@ -101,7 +101,7 @@ fn drive<R: Threads + Wait + Sync, V: Verifier, G: Gate, T: Taker>(
         ≡ length window
         → Came (OffersLine (V.shows tools.now.verifier.now) id.now.0 T.offers) result first window taker.old taker.new }
 {
-    let (pass, state, lanes) = beside(tools, id, &intake, jobs, pass, room, count, taker);
+    let (pass, state, lanes) = run_workers(tools, id, &intake, jobs, pass, room, count, taker);
     intake.close(lanes, pass);
     state
 }
@@ -115,7 +115,7 @@ struct SetUp {
 }
 
 // Divides the lines by their lanes, and makes a queue with a quota for each.
-fn set_up(alloc: Global, window: Vec<LaneLine>, first: &[u64; 8]) -> Result<SetUp, NoMemory>
+fn divide_window(alloc: Global, window: Vec<LaneLine>, first: &[u64; 8]) -> Result<SetUp, NoMemory>
     requires window { (0 < vec_len window) × (vec_len window ≤ 4096) }
     requires low { All (λ l. l.lane < 8) window.items }
     requires numbers { (k : ℕ) → k < 8
@@ -129,7 +129,7 @@ fn set_up(alloc: Global, window: Vec<LaneLine>, first: &[u64; 8]) -> Result<SetU
     let lanes = divide(alloc, window)?;
     let quotas = counts(alloc, lanes.as_slice())?;
     let (intake, passes, pass) = Intake::<Made>::new(alloc, first.as_slice(), quotas.as_slice())?;
-    let jobs = jobs_of(alloc, passes, lanes, first)?;
+    let jobs = lane_jobs(alloc, passes, lanes, first)?;
     Ok(SetUp { intake, jobs, pass })
 }
 
@@ -158,11 +158,11 @@ pub fn run_lanes<R: Threads + Wait + Sync, V: Verifier, G: Gate, T: Taker>(
         return run_alone(tools, window, first[usize::from(lane)], id, taker);
     }
     let count = window.len();
-    let SetUp { intake, jobs, pass } = set_up(tools.alloc, window, first)?;
+    let SetUp { intake, jobs, pass } = divide_window(tools.alloc, window, first)?;
     let hands = Vec::with_capacity(tools.alloc, 8)?;
     let done = Vec::with_capacity(tools.alloc, 8)?;
     let room = Room { hands, done };
-    match drive(tools, id, intake, jobs, pass, room, count, taker) {
+    match run_and_close(tools, id, intake, jobs, pass, room, count, taker) {
         State::Going | State::Stopped => Ok(()),
         State::Lacking => Err(NoMemory),
     }

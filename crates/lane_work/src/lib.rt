@@ -3,7 +3,7 @@
 //!
 //! `prepare` makes of a line all that the line alone defines. `run_lanes` divides lines by their lanes (`divide`), starts a
 //! worker for each lane that has some (`starting`, `working`), which submits what it made to one queue, and offers the
-//! taker what comes out of it, on the calling thread (`taking`). A few lines of one lane go without queue and worker
+//! taker what comes out of it, on the calling thread (`offering`). A few lines of one lane go without queue and worker
 //! (`alone`).
 #![tactic(auto)]
 
@@ -14,12 +14,12 @@ mod hands;
 mod idle;
 mod kinds;
 mod lanes;
+mod offering;
 mod preparing;
 mod requests;
 mod scoped;
 mod starting;
 mod taker;
-mod taking;
 mod tools;
 mod working;
 

@@ -8,7 +8,7 @@ ghost use Rattle.ledger_model.specs.Rules.{job_for, job_of};
 
 use crate::requests::{clue_occult_job, member_job, occult_job, purge_job, record_job};
 use journal_record::clue_digest;
-use ledger_book::{Job, Prepared};
+use ledger_book::{Job, Prepared, Query};
 use ledger_bytes::{Digest, NoMemory};
 use member_book::Verifier;
 use script_lines::{Line, Spoken, read_line};
@@ -80,13 +80,13 @@ fn prepare_line<V: Verifier>(
         Line::Purge { point, root, given } => {
             purge_job(alloc, verifier, id, point, root, given.as_slice())?
         }
-        Line::Get { n } => Job::Get { n },
-        Line::Prove { n } => Job::Prove { n },
-        Line::Extend { which, m } => Job::Extend { which, m },
-        Line::Clue { name } => Job::Clue {
+        Line::Get { n } => Job::Ask(Query::Get { n }),
+        Line::Prove { n } => Job::Ask(Query::Prove { n }),
+        Line::Extend { which, m } => Job::Ask(Query::Extend { which, m }),
+        Line::Clue { name } => Job::Ask(Query::Clue {
             clue: clue_digest(name.as_slice()),
-        },
-        Line::Head => Job::Head,
+        }),
+        Line::Head => Job::Ask(Query::Head),
     };
     Ok(job)
 }

@@ -7,9 +7,9 @@ ghost use Rattle.lane_work.specs.Working.{HasHandRoom, IsReady, Pairs, WorksOf};
 use crate::gate::Gate;
 use crate::hands::{LaneJob, Room};
 use crate::kinds::Made;
+use crate::offering::{State, take_all};
 use crate::starting::{finish_all, start_all};
 use crate::taker::Taker;
-use crate::taking::{State, take_all};
 use crate::tools::Tools;
 use intake_queue::{Intake, LanePass, TakerPass};
 use ledger_bytes::Digest;
@@ -25,7 +25,7 @@ pub(crate) trait Offering: Sized {
     ghost use Rattle.intake_queue.specs.Passes.{taker_view};
     ghost use Rattle.lane_work.specs.Handing.{HasGot, IsNewTaker};
     ghost use Rattle.lane_work.specs.declared.kinds.Made.{Made};
-    ghost use Rattle.lane_work.specs.declared.taking.State.{State};
+    ghost use Rattle.lane_work.specs.declared.offering.State.{State};
 
     type Back;
 

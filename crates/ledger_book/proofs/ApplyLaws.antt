@@ -37,9 +37,8 @@ use Rattle.ledger_model.specs.declared.job.Job.{Job}
 use Rattle.ledger_model.specs.declared.job.Job.TheVariants.{Append, NewMember, Anchor, Occult, OccultClue}
 use Rattle.ledger_model.specs.declared.limits.Limits.{Limits}
 use Rattle.ledger_model.specs.declared.outcome.Outcome.{Outcome}
-use Rattle.ledger_model.specs.declared.outcome.Outcome.TheVariants.{Refused, Placed, Again, Reading}
+use Rattle.ledger_model.specs.declared.outcome.Outcome.TheVariants.{Refused, Placed, StampWanted}
 use Rattle.ledger_model.specs.declared.outcome.PlacedJournal.{PlacedJournal}
-use Rattle.ledger_model.specs.declared.outcome.Query.{Query}
 use Rattle.ledger_model.proofs.AcceptedLaws.{record_next, member_next, occult_next, clue_occult_next, time_next}
 use Rattle.ledger_book.specs.Books.{Kept, Stands, Serves}
 use Rattle.ledger_book.specs.Steps.{Anchors, Applies, IsSame, MayPlace, IsLeafOf, HasOperatorRoom, PlacesNothing}
@@ -66,24 +65,14 @@ applies_placed limits stamp h job j header placed k none is told header_is at le
       widths = λ p journal _ other. let same : j ≡ journal = cc (is, other) in subst HasWidths (sym header_is ∙ ap (λ (e : Entry). e.header) same) widths;
     }
 
--- .. or none
-pub applies_reading : (limits : Limits) (stamp : Option Stamp) (h : History) (job : Job) (query : Query) (k : Kept) → own_refusal limits h job ≡ None → placed_journal h stamp job ≡ None → accepted_outcome h stamp job ≡ Reading query
-    → Serves k h → Applies limits stamp h job (Reading query) k
+-- .. or none: it asks for something, wants a stamp, or repeats what was placed before
+pub applies_nothing : (limits : Limits) (stamp : Option Stamp) (h : History) (job : Job) (came : Outcome) (k : Kept) → PlacesNothing came → own_refusal limits h job ≡ None → placed_journal h stamp job ≡ None → accepted_outcome h stamp job ≡ came
+    → Serves k h → Applies limits stamp h job came k
 unfolding outcomes.outcome outcomes.with_job
-applies_reading limits stamp h job query k none is told s = record {
+applies_nothing limits stamp h job came k nothing none is told s = record {
   outcome_is = sym (ap (λ r. judged_outcome r (accepted_outcome h stamp job)) none ∙ told);
   serves = subst (Serves k) (sym (ap (λ r. after_judgement r (placed_journal h stamp job) h) none ∙ ap (λ o. with_waiting o h) is)) s;
-  widths = λ p journal no _. absurd (let never : ⊥ = cc no in never);
-}
-
--- .. or one that was placed before
-pub applies_again : (limits : Limits) (stamp : Option Stamp) (h : History) (job : Job) (jsn : ℕ) (leaf : Digest) (k : Kept) → own_refusal limits h job ≡ None → placed_journal h stamp job ≡ None → accepted_outcome h stamp job ≡ Again jsn leaf
-    → Serves k h → Applies limits stamp h job (Again jsn leaf) k
-unfolding outcomes.outcome outcomes.with_job
-applies_again limits stamp h job jsn leaf k none is told s = record {
-  outcome_is = sym (ap (λ r. judged_outcome r (accepted_outcome h stamp job)) none ∙ told);
-  serves = subst (Serves k) (sym (ap (λ r. after_judgement r (placed_journal h stamp job) h) none ∙ ap (λ o. with_waiting o h) is)) s;
-  widths = λ p journal no _. absurd (let never : ⊥ = cc no in never);
+  widths = λ p journal placed _. absurd (subst PlacesNothing placed nothing);
 }
 
 -- what is judged of a member's record, in its two halves
@@ -192,9 +181,9 @@ anchor_refused limits h refusal is = is ∙ first_one (hard_fullness limits h)
 pub anchor_accepted : (k : Kept) (h : History) → Serves k h → HasOperatorRoom k → own_refusal k.limits h Anchor ≡ None
 anchor_accepted k h s room = sym (anchor_refused k.limits h None (hard_not k h (k.size - k.point) s refl room.0 room.1))
 
--- where it asks for a stamp there is room
-pub asked_room : (old new : Kept) (o : Outcome) (q : Query) → Anchors old o → o ≡ Reading q → (PlacesNothing o → new ≡ old) → HasOperatorRoom new
-asked_room old new o q told is same = subst HasOperatorRoom (sym (same (subst PlacesNothing (sym is) tt))) (subst (Anchors old) is told)
+-- where it wants a stamp there is room
+pub asked_room : (old new : Kept) (o : Outcome) → Anchors old o → o ≡ StampWanted → (PlacesNothing o → new ≡ old) → HasOperatorRoom new
+asked_room old new o told is same = subst HasOperatorRoom (sym (same (subst PlacesNothing (sym is) tt))) (subst (Anchors old) is told)
 
 -- a record and a new member may share their block with others
 pub content_gathers : (jsn member : ℕ) (clue : Digest) (ordinal previous : ℕ) (content : List ℕ) (content_digest request who : Digest) (number : ℕ) (header : Header) → header ≡ append_header jsn member clue ordinal previous content content_digest request who number → gathers header.kind ≡ true

@@ -9,7 +9,7 @@ use Rattle.ledger_model.specs.Targets.{kind_at}
 use Rattle.ledger_model.specs.declared.job.Job.{Job}
 use Rattle.ledger_model.specs.declared.job.Job.TheVariants as asked
 use Rattle.ledger_model.specs.declared.outcome.Outcome.{Outcome}
-use Rattle.ledger_model.specs.declared.outcome.Outcome.TheVariants.{Refused, Placed, Again, Reading}
+use Rattle.ledger_model.specs.declared.outcome.Outcome.TheVariants.{Refused, Placed, Again, StampWanted, Reading}
 
 -- what a book tells of the journal that a purge names is so in this history, as far as it is looked at
 pub record ArePurgeFacts (h : History) (facts : PurgeFacts) (n : ℕ) : Type 0 where
@@ -28,6 +28,7 @@ abbrev pub point_of : ℕ → Outcome → ℕ → ℕ
 point_of p (Refused refusal) point = point
 point_of p (Placed placed) point = p
 point_of p (Again jsn leaf) point = point
+point_of p StampWanted point = point
 point_of p (Reading query) point = point
 
 -- the point after a job: only a purge changes it
@@ -39,8 +40,4 @@ point_after asked.Anchor told point = point
 point_after (asked.Occult target leaf given) told point = point
 point_after (asked.OccultClue clue count given) told point = point
 point_after (asked.Purge p root given) told point = point_of p told point
-point_after (asked.Get n) told point = point
-point_after (asked.Prove n) told point = point
-point_after (asked.Extend which m) told point = point
-point_after (asked.Clue clue) told point = point
-point_after asked.Head told point = point
+point_after (asked.Ask query) told point = point

@@ -25,7 +25,7 @@ use Rattle.ledger_model.specs.Outcomes.{after_judgement, placed_journal, with_jo
 use Rattle.ledger_model.specs.Rules.{after_job}
 use Rattle.ledger_model.specs.Step.{Step}
 use Rattle.ledger_model.specs.declared.job.Job.{Job}
-use Rattle.ledger_model.specs.declared.job.Job.TheVariants.{Refused, Append, NewMember, Anchor, Occult, OccultClue, Purge, Get, Prove, Extend, Clue, Head}
+use Rattle.ledger_model.specs.declared.job.Job.TheVariants.{Refused, Append, NewMember, Anchor, Occult, OccultClue, Purge, Ask}
 use Rattle.ledger_model.proofs.EndLaws.{ends_split}
 use Rattle.ledger_model.proofs.GrowLaws.{close_none, close_settled, grows_close, grows_not, grows_then, journals_of-push, size_close}
 use Rattle.ledger_book.specs.Books.{headers}
@@ -187,8 +187,4 @@ next_job h step Anchor = next_own (own_refusal real_limits (close h) Anchor) (op
 next_job h step (Occult target leaf given) = next_own (own_refusal real_limits (close h) (Occult target leaf given)) (Some (occult_journal (size (close h)) target leaf given)) h (λ e is. kind_as (occult_journal (size (close h)) target leaf given) e (occult_alone (size (close h)) target leaf given) is)
 next_job h step (OccultClue clue count given) = next_own (own_refusal real_limits (close h) (OccultClue clue count given)) (Some (clue_occult_journal (size (close h)) clue count given)) h (λ e is. kind_as (clue_occult_journal (size (close h)) clue count given) e (clue_occult_alone (size (close h)) clue count given) is)
 next_job h step (Purge p told given) = next_own (own_refusal real_limits (close h) (Purge p told given)) (Some (purge_journal (close h) p given)) h (λ e is. kind_as (purge_journal (close h) p given) e (purge_alone (close h) p given) is)
-next_job h step (Get n) = next_read (own_refusal real_limits (close h) (Get n)) h _
-next_job h step (Prove n) = next_read (own_refusal real_limits (close h) (Prove n)) h _
-next_job h step (Extend which m) = next_read (own_refusal real_limits (close h) (Extend which m)) h _
-next_job h step (Clue name) = next_read (own_refusal real_limits (close h) (Clue name)) h _
-next_job h step Head = next_read (own_refusal real_limits (close h) Head) h _
+next_job h step (Ask query) = next_read (own_refusal real_limits (close h) (Ask query)) h _

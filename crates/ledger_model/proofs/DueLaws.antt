@@ -26,8 +26,7 @@ use Rattle.ledger_model.specs.declared.answer.Answer.{Answer}
 use Rattle.ledger_model.specs.declared.answer.Answer.TheVariants.{Reply, Receipt}
 use Rattle.ledger_model.specs.declared.due.Due.{Due}
 use Rattle.ledger_model.specs.declared.job.Job.{Job}
-use Rattle.ledger_model.specs.declared.job.Job.TheVariants.{Refused, Append, NewMember, Anchor, Occult, OccultClue, Purge, Get, Prove, Extend, Clue, Head}
-use Rattle.ledger_model.specs.declared.outcome.Query.TheVariants as query
+use Rattle.ledger_model.specs.declared.job.Job.TheVariants.{Refused, Append, NewMember, Anchor, Occult, OccultClue, Purge, Ask}
 use Rattle.ledger_model.proofs.ProveLaws.{asked}
 use Rattle.ledger_model.proofs.RepeatLaws.{repeated_within}
 use Rattle.ledger_model.proofs.GrowLaws.{moves_close, grows_not, grows_moved, grows_job, grows_settled, grows_then, grows_size, root_kept, block_of-grows, end_of-grows, end_of-le}
@@ -79,11 +78,7 @@ within_job k step (OccultClue clue count given) =
 within_job k step (Purge p told given) =
     let job = Purge p told given in
     within_judged (close k) step job (own_refusal real_limits (close k) job) (purge_journal (close k) p given)
-within_job k step (Get n) = tt
-within_job k step (Prove n) = asked (IsWithin _ _) (close k) step (own_refusal real_limits (close k) (Prove n)) (query.Prove n) (λ why is. tt) tt
-within_job k step (Extend which m) = asked (IsWithin _ _) (close k) step (own_refusal real_limits (close k) (Extend which m)) (query.Extend which m) (λ why is. tt) tt
-within_job k step (Clue clue) = tt
-within_job k step Head = tt
+within_job k step (Ask query) = asked (IsWithin _ _) (close k) step (own_refusal real_limits (close k) (Ask query)) query (λ why is. tt) tt
 
 within_step : (scheme : Scheme) (k : History) (step : Step) → IsWithin 0 (size (after_step scheme k step)) (due_for scheme k step).answer
 unfolding after_step

@@ -25,16 +25,15 @@ use Rattle.script_lines.specs.Grammar.{spoken_line}
 use Rattle.script_lines.specs.Receipts.{Told, FitsWord, AllFits, StampFits, RefusalFits, ReplyFits, AllFit}
 use Rattle.script_lines.specs.declared.line.Line.{Line}
 use Rattle.script_lines.specs.declared.line.Line.TheVariants as line
-use Rattle.script_lines.specs.Limits.{fits_what, fits_approvals}
+use Rattle.script_lines.specs.Limits.{fits_line, fits_what, fits_approvals}
 use Rattle.script_lines.specs.declared.said.SaidApproval.{SaidApproval}
-use Rattle.script_lines.proofs.Fitting.{spoken_fits}
-use Rattle.script_lines.proofs.SpokenLaws.{WhatFits, spoken_counts}
+use Rattle.script_lines.proofs.Fitting.{WhatFits, spoken_fits, spoken_counts}
 use Rattle.ledger_model.specs.Appends.{approval_of, clue_of, append_with, member_job, occult_job, clue_occult_job, purge_job, append_journal, member_journal, occult_journal, clue_occult_journal, purge_journal}
 use Rattle.ledger_model.specs.Clues.{numbers_of, jsns_with, clue_count}
 use Rattle.ledger_model.specs.Dues.{IsWithin, due_for, dues, all_dues, due_reply, due_replies, IsCounted, AllCounted, EachCounted}
 use Rattle.ledger_model.specs.Growing.{Grows}
 use Rattle.ledger_model.specs.History.{History, id, journals, journals_of, leaf_digest, size, root, blocks, point, block_from, end_from, block_of, end_of, close}
-use Rattle.ledger_model.specs.Judgements.{kept_count, is_full, fullness, hard_fullness, life_fullness, unknown_in, wrong_key_in, clues_full, own_refusal}
+use Rattle.ledger_model.specs.Judgements.{kept_count, is_full, fullness, hard_fullness, life_fullness, unknown_in, wrong_key_in, clues_full, ask_judgements, own_refusal}
 use Rattle.member_book.specs.Erasures.{absent, purged, purged_up_to, is_record, no_record, is_time, no_time, hidden_by, other_leaf, other_root, clue_differs, nothing_shown, first_refusal}
 use Rattle.ledger_model.specs.Lawful.{AreNext, IsBlock, IsLawful}
 use Rattle.ledger_model.specs.Limits.{real_limits}
@@ -62,12 +61,12 @@ use Rattle.ledger_bytes.specs.Digests.{digest}
 use Rattle.sha2.specs.Sha256.{sha256}
 use Rattle.tree_model.specs.Tree.{mth}
 use Rattle.ledger_model.specs.declared.job.Job.{Job}
-use Rattle.ledger_model.specs.declared.job.Job.TheVariants.{Refused, Append, NewMember, Anchor, Occult, OccultClue, Purge, Get, Prove, Extend, Clue, Head}
+use Rattle.ledger_model.specs.declared.job.Job.TheVariants.{Refused, Append, NewMember, Anchor, Occult, OccultClue, Purge, Ask}
 use Rattle.ledger_model.proofs.ByteLaws.{leaf_bytes}
 use Rattle.ledger_model.proofs.DueLaws.{grows_steps, AllWithin, all_higher, dues_within, grows_windows}
 use Rattle.ledger_model.proofs.GetLaws.{get_fits}
 use Rattle.ledger_model.proofs.GrowLaws.{length-journals_of, grows_close, grows_size, grows_then}
-use Rattle.ledger_model.proofs.KeepLaws.{run_lawful, close_lawful, step_lawful, steps_lawful}
+use Rattle.ledger_model.proofs.KeepLaws.{each_line, run_lawful, close_lawful, step_lawful, steps_lawful}
 use Rattle.ledger_model.proofs.ProveLaws.{asked, told_proof, told_extension}
 use Rattle.ledger_model.proofs.RepeatLaws.{numbered_within}
 use Rattle.ledger_model.proofs.LawfulLaws.{AreFrom, lawful_from, some_journal, lawful_members, AreBetween, numbers_between, numbers_few, point_below}
@@ -334,11 +333,15 @@ JobFits Anchor = ⊤
 JobFits (Occult target leaf given) = (length given ≤ APPROVAL_LIMIT) × MembersFit given
 JobFits (OccultClue clue count given) = (length given ≤ APPROVAL_LIMIT) × MembersFit given
 JobFits (Purge p told given) = (length given ≤ APPROVAL_LIMIT) × MembersFit given
-JobFits (Get n) = ⊤
-JobFits (Prove n) = ⊤
-JobFits (Extend which m) = ⊤
-JobFits (Clue clue) = ⊤
-JobFits Head = ⊤
+JobFits (Ask query) = ⊤
+
+ask_fits : (h : History) (q : Query) → IsLawful h → MayFit (first_refusal (ask_judgements h q))
+ask_fits h (query.Get n) l = tt
+ask_fits h (query.Prove n) l = first_fits (prove_refusal h n ∷ []) (prove_fits h n l, tt)
+ask_fits h (query.Extend Ledger m) l = first_fits (extend_refusal h m ∷ []) (extend_fits h m l, tt)
+ask_fits h (query.Extend Notary m) l = tt
+ask_fits h (query.Clue clue) l = tt
+ask_fits h query.Head l = tt
 
 own_fits : (h : History) (job : Job) → IsLawful h → JobFits job → MayFit (own_refusal real_limits h job)
 own_fits h (Refused refusal) l f = f
@@ -377,12 +380,7 @@ own_fits h (Purge p told given) l f =
         ),
       ),
     )
-own_fits h (Get n) l f = tt
-own_fits h (Prove n) l f = first_fits (prove_refusal h n ∷ []) (prove_fits h n l, tt)
-own_fits h (Extend Ledger m) l f = first_fits (extend_refusal h m ∷ []) (extend_fits h m l, tt)
-own_fits h (Extend Notary m) l f = tt
-own_fits h (Clue clue) l f = tt
-own_fits h Head l f = tt
+own_fits h (Ask query) l f = ask_fits h query l
 
 said_fit : (scheme : Scheme) (message : List ℕ) (gs : List SaidApproval) → All (λ by. FitsWord by.member) gs → MembersFit (map (λ (by : SaidApproval). approval_of scheme by.member message by.proof) gs)
 said_fit scheme message [] all = tt
@@ -402,19 +400,11 @@ given_fit scheme message given fits f = (
 for_fits : (scheme : Scheme) (id : List ℕ) (what : Result Line Refusal) → fits_what what ≡ true → WhatFits what → JobFits (job_for scheme id what)
 unfolding append_with member_job occult_job clue_occult_job purge_job
 for_fits scheme id (Err refusal) fits f = f
-for_fits scheme id (Ok (line.Append member clue content proof number)) fits f = f.0
-for_fits scheme id (Ok (line.NewMember number key proof)) fits f = tt
-for_fits scheme id (Ok (line.Get n)) fits f = tt
-for_fits scheme id (Ok (line.Prove n)) fits f = tt
-for_fits scheme id (Ok (line.Extend which m)) fits f = tt
-for_fits scheme id (Ok (line.Clue name)) fits f = tt
-for_fits scheme id (Ok line.Anchor) fits f = tt
-for_fits scheme id (Ok (line.Occult target leaf given)) fits f =
-    given_fit scheme (occult_request_digest_of id target leaf.0) given fits f
-for_fits scheme id (Ok (line.OccultClue name count given)) fits f =
-    given_fit scheme (clue_occult_request_digest_of id (clue_of name).0 count) given (clue_approvals name given fits) f
-for_fits scheme id (Ok (line.Purge p told given)) fits f = given_fit scheme (purge_request_digest_of id p told.0) given fits f
-for_fits scheme id (Ok line.Head) fits f = tt
+for_fits scheme id (Ok said) fits f =
+    each_line scheme id (λ said job. fits_line said ≡ true → WhatFits (Ok said) → JobFits job) (λ member clue content proof number fits f. f.0) (λ number key proof fits f. tt) (λ fits f. tt)
+    (λ target leaf given fits f. given_fit scheme (occult_request_digest_of id target leaf.0) given fits f)
+    (λ name count given fits f. given_fit scheme (clue_occult_request_digest_of id (clue_of name).0 count) given (clue_approvals name given fits) f)
+    (λ p told given fits f. given_fit scheme (purge_request_digest_of id p told.0) given fits f) (λ said query fits f. tt) said fits f
 
 pub job_counts : (scheme : Scheme) (id text : List ℕ) → JobFits (job_of scheme id text)
 unfolding job_of
@@ -448,15 +438,19 @@ anchor_fits h step (Some refusal) stamp c f = f
 anchor_fits h step None None c f = no_stamp_fits step
 anchor_fits h step None (Some stamp) c f = (leaf_bytes (time_journal (size h) stamp), c.stamp)
 
-head_fits : (h : History) (step : Step) → IsLawful h → IsCounted step → AnswerFits (Reply (told_reply h step query.Head))
-head_fits h step l c = elim step.failed as (λ v. AnswerFits (Reply (cond v (reply.Refused refusals.NotaryFault) (reply.Head (digest (id h)) (size h) (digest (root h (size h))) (blocks h) (point h) (length step.after) (digest (mth sha256 step.after)))))) [
+head_fits : (h : History) (step : Step) → IsLawful h → IsCounted step → ReplyFits (told_reply h step query.Head)
+head_fits h step l c = elim step.failed as (λ v. ReplyFits (cond v (reply.Refused refusals.NotaryFault) (reply.Head (digest (id h)) (size h) (digest (root h (size h))) (blocks h) (point h) (length step.after) (digest (mth sha256 step.after))))) [
   | true ↦ tt
   | false ↦ (omega (arith, size_few h l), omega (arith, closed_few h l, size_few h l), omega (arith, point_few h l, size_few h l), c.entries)
 ]
 
--- .. of a job that only asks
-asked_fits : (h : History) (step : Step) (job : Job) (q : Query) → MayFit (own_refusal real_limits h job) → ReplyFits (told_reply h step q) → AnswerFits (answer_for h step (judged_outcome (own_refusal real_limits h job) (Reading q)))
-asked_fits h step job q f told = asked AnswerFits h step (own_refusal real_limits h job) q (λ why is. subst MayFit is f) told
+-- what is told to a job that only asks
+told_fits : (h : History) (step : Step) (q : Query) → IsLawful h → IsCounted step → ReplyFits (told_reply h step q)
+told_fits h step (query.Get n) l c = get_fits h n (omega (arith, size_few h l)) (omega (arith, point_few h l, size_few h l))
+told_fits h step (query.Prove n) l c = told_proof ReplyFits h step n tt (λ m leaf lo hi bytes. tt)
+told_fits h step (query.Extend which m) l c = told_extension ReplyFits h step which m tt c.entries (λ tree k size root bytes. tt)
+told_fits h step (query.Clue clue) l c = (count_fits h clue l, kept_fit h clue l)
+told_fits h step query.Head l c = head_fits h step l c
 
 outcome_fits : (h : History) (step : Step) (job : Job) → IsLawful h → IsCounted step → JobFits job → AnswerFits (answer_for h step (outcome real_limits (stamp_of step) h job))
 unfolding outcome
@@ -473,12 +467,8 @@ outcome_fits h step (OccultClue clue count given) l c f =
     let job = OccultClue clue count given in placed_fits h step (own_refusal real_limits h job) (clue_occult_journal (size h) clue count given) c (own_fits h job l f)
 outcome_fits h step (Purge p told given) l c f =
     let job = Purge p told given in placed_fits h step (own_refusal real_limits h job) (purge_journal h p given) c (own_fits h job l f)
-outcome_fits h step (Get n) l c f = get_fits h n (omega (arith, size_few h l)) (omega (arith, point_few h l, size_few h l))
-outcome_fits h step (Prove n) l c f = asked_fits h step (Prove n) (query.Prove n) (own_fits h (Prove n) l f) (told_proof ReplyFits h step n tt (λ m leaf lo hi bytes. tt))
-outcome_fits h step (Extend which m) l c f =
-    asked_fits h step (Extend which m) (query.Extend which m) (own_fits h (Extend which m) l f) (told_extension ReplyFits h step which m tt c.entries (λ tree k size root bytes. tt))
-outcome_fits h step (Clue clue) l c f = (count_fits h clue l, kept_fit h clue l)
-outcome_fits h step Head l c f = head_fits h step l c
+outcome_fits h step (Ask query) l c f =
+    asked AnswerFits h step (own_refusal real_limits h (Ask query)) query (λ why is. subst MayFit is (ask_fits h query l)) (told_fits h step query l c)
 
 judged_lawful : (h : History) (b : Bool) → IsLawful h → IsLawful (cond b (close h) h)
 judged_lawful h true l = close_lawful h l

@@ -18,7 +18,7 @@ use Rattle.journal_record.specs.Entry.{Entry, content_digest_of, who_digest_of}
 use Rattle.journal_record.specs.Request.{occult_request_digest_of, clue_occult_request_digest_of, purge_request_digest_of}
 use Rattle.journal_record.specs.declared.approval.Approval.{Approval}
 use Rattle.script_lines.specs.Grammar.{spoken_line}
-use Rattle.script_lines.specs.Limits.{fits_what, fits_approvals}
+use Rattle.script_lines.specs.Limits.{fits_line, fits_what, fits_approvals}
 use Rattle.script_lines.specs.declared.said.SaidApproval.{SaidApproval}
 use Rattle.script_lines.specs.declared.line.Line.{Line}
 use Rattle.script_lines.specs.declared.line.Line.TheVariants as line
@@ -36,8 +36,10 @@ use Rattle.ledger_model.specs.Scheme.{Scheme}
 use Rattle.ledger_model.specs.Step.{Step}
 use Rattle.ledger_model.specs.declared.genesis.Genesis.{Genesis}
 use Rattle.ledger_model.specs.declared.job.Job.{Job}
-use Rattle.ledger_model.specs.declared.job.Job.TheVariants.{Refused, Append, NewMember, Anchor, Occult, OccultClue, Purge, Get, Prove, Extend, Clue, Head}
+use Rattle.ledger_model.specs.declared.job.Job.TheVariants.{Refused, Append, NewMember, Anchor, Occult, OccultClue, Purge, Ask}
 use Rattle.ledger_model.specs.Numbers.{repeated, unless_repeated}
+use Rattle.ledger_model.specs.declared.outcome.Query.{Query}
+use Rattle.ledger_model.specs.declared.outcome.Query.TheVariants as query
 use Rattle.ledger_model.proofs.AcceptedLaws.{IsNew, record_next, record_whole, member_next, member_whole, occult_next, occult_whole, clue_occult_next, clue_occult_whole, purge_next, purge_whole, time_next, time_whole, stamp_few}
 use Rattle.ledger_model.proofs.GrowLaws.{journals_of-push, close_none}
 use Rattle.ledger_model.proofs.LawfulLaws.{lawful_more}
@@ -162,13 +164,8 @@ job_lawful h step (Purge p told given) fits l =
     let lawful = (close_lawful h l).journals_are in
     alone_lawful g (own_refusal real_limits g (Purge p told given)) (purge_journal g p given) (close_lawful h l) (close_none h)
     (λ none. lawful_more (journals g) _ lawful (purge_next real_limits real_within g p told given none _ lawful))
-job_lawful h step (Get n) fits l = settled_lawful (close h) (Get n) (close_lawful h l)
-job_lawful h step (Prove n) fits l =
-    subst (λ g. IsLawful (settled_history (Prove n) g)) (sym (unplaced (own_refusal real_limits (close h) (Prove n)) (close h))) (settled_lawful (close h) (Prove n) (close_lawful h l))
-job_lawful h step (Extend which m) fits l =
-    subst (λ g. IsLawful (settled_history (Extend which m) g)) (sym (unplaced (own_refusal real_limits (close h) (Extend which m)) (close h))) (settled_lawful (close h) (Extend which m) (close_lawful h l))
-job_lawful h step (Clue clue) fits l = settled_lawful (close h) (Clue clue) (close_lawful h l)
-job_lawful h step Head fits l = settled_lawful (close h) Head (close_lawful h l)
+job_lawful h step (Ask query) fits l =
+    subst (λ g. IsLawful (settled_history (Ask query) g)) (sym (unplaced (own_refusal real_limits (close h) (Ask query)) (close h))) (settled_lawful (close h) (Ask query) (close_lawful h l))
 
 close_sound : (h : History) → IsSound h → IsSound (close h)
 close_sound h s = subst (All IsWhole) (sym (journals_close h)) s
@@ -206,13 +203,8 @@ job_sound h step (OccultClue clue count given) fits s =
     let job = OccultClue clue count given in placed_sound (close h) job (own_refusal real_limits (close h) job) _ (close_sound h s) (clue_occult_whole _ clue count given)
 job_sound h step (Purge p told given) fits s =
     let job = Purge p told given in placed_sound (close h) job (own_refusal real_limits (close h) job) _ (close_sound h s) (purge_whole (close h) p given)
-job_sound h step (Get n) fits s = settled_sound (close h) (Get n) (close_sound h s)
-job_sound h step (Prove n) fits s =
-    subst (λ g. IsSound (settled_history (Prove n) g)) (sym (unplaced (own_refusal real_limits (close h) (Prove n)) (close h))) (settled_sound (close h) (Prove n) (close_sound h s))
-job_sound h step (Extend which m) fits s =
-    subst (λ g. IsSound (settled_history (Extend which m) g)) (sym (unplaced (own_refusal real_limits (close h) (Extend which m)) (close h))) (settled_sound (close h) (Extend which m) (close_sound h s))
-job_sound h step (Clue clue) fits s = settled_sound (close h) (Clue clue) (close_sound h s)
-job_sound h step Head fits s = settled_sound (close h) Head (close_sound h s)
+job_sound h step (Ask query) fits s =
+    subst (λ g. IsSound (settled_history (Ask query) g)) (sym (unplaced (own_refusal real_limits (close h) (Ask query)) (close h))) (settled_sound (close h) (Ask query) (close_sound h s))
 
 same_bytes : (bytes : List ℕ) → bytes_eq bytes bytes ≡ true
 same_bytes bytes = (bytes_eq-Decides bytes bytes).1 refl
@@ -257,23 +249,43 @@ pub purge_fits : (scheme : Scheme) (id : List ℕ) (p : ℕ) (told : Digest) (gi
 unfolding purge_job
 purge_fits scheme id p told given fits = shown_fit scheme (purge_request_digest_of id p told.0) given fits
 
+-- What holds of each line with the job that it asks for: it is shown of each verb that a job is made for, of anchors, and of all
+-- lines that ask at once.
+pub each_line : (scheme : Scheme) (id : List ℕ) (P : Line → Job → Type 0)
+    → ((member : ℕ) (clue content proof : List ℕ) (number : ℕ) → P (line.Append member clue content proof number) (append_with scheme id member (clue_of clue) content proof number))
+    → ((number : ℕ) (key : Digest) (proof : List ℕ) → P (line.NewMember number key proof) (member_job scheme id number key proof))
+    → P line.Anchor Anchor
+    → ((target : ℕ) (leaf : Digest) (given : List SaidApproval) → P (line.Occult target leaf given) (occult_job scheme id target leaf given))
+    → ((name : List ℕ) (count : ℕ) (given : List SaidApproval) → P (line.OccultClue name count given) (clue_occult_job scheme id name count given))
+    → ((p : ℕ) (told : Digest) (given : List SaidApproval) → P (line.Purge p told given) (purge_job scheme id p told given))
+    → ((said : Line) (query : Query) → P said (Ask query))
+    → (said : Line) → P said (job_for scheme id (Ok said))
+each_line scheme id P append member anchor occult clue_occult purge asks (line.Append number clue content proof request) = append number clue content proof request
+each_line scheme id P append member anchor occult clue_occult purge asks (line.NewMember number key proof) = member number key proof
+each_line scheme id P append member anchor occult clue_occult purge asks line.Anchor = anchor
+each_line scheme id P append member anchor occult clue_occult purge asks (line.Occult target leaf given) = occult target leaf given
+each_line scheme id P append member anchor occult clue_occult purge asks (line.OccultClue name count given) = clue_occult name count given
+each_line scheme id P append member anchor occult clue_occult purge asks (line.Purge p told given) = purge p told given
+each_line scheme id P append member anchor occult clue_occult purge asks (line.Get n) = asks (line.Get n) (query.Get n)
+each_line scheme id P append member anchor occult clue_occult purge asks (line.Prove n) = asks (line.Prove n) (query.Prove n)
+each_line scheme id P append member anchor occult clue_occult purge asks (line.Extend which m) = asks (line.Extend which m) (query.Extend which m)
+each_line scheme id P append member anchor occult clue_occult purge asks (line.Clue name) = asks (line.Clue name) (query.Clue (clue_of name))
+each_line scheme id P append member anchor occult clue_occult purge asks line.Head = asks line.Head query.Head
+
 for_fits : (scheme : Scheme) (id : List ℕ) (what : Result Line Refusal) → fits_what what ≡ true → fits_job (job_for scheme id what) ≡ true
 for_fits scheme id (Err refusal) fits = fits
-for_fits scheme id (Ok (line.Append member clue content proof number)) fits =
-    let parts = and_parts (nat_le (length clue) NAME_LIMIT && nat_le (length content) CONTENT_LIMIT) (nat_le (length proof) PROOF_LIMIT) fits in
-    let front = and_parts (nat_le (length clue) NAME_LIMIT) (nat_le (length content) CONTENT_LIMIT) parts.0 in
-    record_fits scheme id member _ content proof number (leb-true (length content) CONTENT_LIMIT front.1) (leb-true (length proof) PROOF_LIMIT parts.1)
-for_fits scheme id (Ok (line.NewMember number key proof)) fits = member_fits scheme id number key proof (leb-true (length proof) PROOF_LIMIT fits)
-for_fits scheme id (Ok (line.Get n)) fits = refl
-for_fits scheme id (Ok (line.Prove n)) fits = refl
-for_fits scheme id (Ok (line.Extend which m)) fits = refl
-for_fits scheme id (Ok (line.Clue name)) fits = refl
-for_fits scheme id (Ok line.Anchor) fits = refl
-for_fits scheme id (Ok (line.Occult target leaf given)) fits = occult_fits scheme id target leaf given fits
-for_fits scheme id (Ok (line.OccultClue name count given)) fits =
-    clue_occult_fits scheme id name count given (and_parts (nat_le (length name) NAME_LIMIT) (fits_approvals given) fits).1
-for_fits scheme id (Ok (line.Purge p told given)) fits = purge_fits scheme id p told given fits
-for_fits scheme id (Ok line.Head) fits = refl
+for_fits scheme id (Ok said) fits =
+    each_line scheme id (λ said job. fits_line said ≡ true → fits_job job ≡ true) append_fits
+    (λ number key proof fits. member_fits scheme id number key proof (leb-true (length proof) PROOF_LIMIT fits)) (λ fits. refl)
+    (occult_fits scheme id)
+    (λ name count given fits. clue_occult_fits scheme id name count given (and_parts (nat_le (length name) NAME_LIMIT) (fits_approvals given) fits).1)
+    (purge_fits scheme id) (λ said query fits. refl) said fits
+  where
+    append_fits : (member : ℕ) (clue content proof : List ℕ) (number : ℕ) → fits_line (line.Append member clue content proof number) ≡ true → fits_job (append_with scheme id member (clue_of clue) content proof number) ≡ true
+    append_fits member clue content proof number fits =
+        let parts = and_parts (nat_le (length clue) NAME_LIMIT && nat_le (length content) CONTENT_LIMIT) (nat_le (length proof) PROOF_LIMIT) fits in
+        let front = and_parts (nat_le (length clue) NAME_LIMIT) (nat_le (length content) CONTENT_LIMIT) parts.0 in
+        record_fits scheme id member _ content proof number (leb-true (length content) CONTENT_LIMIT front.1) (leb-true (length proof) PROOF_LIMIT parts.1)
 
 pub job_fits : (scheme : Scheme) (id text : List ℕ) → fits_job (job_of scheme id text) ≡ true
 unfolding job_of

@@ -35,7 +35,7 @@ use Rattle.ledger_model.specs.Step.{Step}
 use Rattle.ledger_model.specs.Took.{notary_after, Took, TookAll}
 use Rattle.ledger_model.specs.declared.genesis.Genesis.{Genesis}
 use Rattle.ledger_model.specs.declared.job.Job.{Job}
-use Rattle.ledger_model.specs.declared.job.Job.TheVariants.{Refused, Append, NewMember, Anchor, Occult, OccultClue, Purge, Get, Prove, Extend, Clue, Head}
+use Rattle.ledger_model.specs.declared.job.Job.TheVariants.{Refused, Append, NewMember, Anchor, Occult, OccultClue, Purge, Ask}
 use Rattle.ledger_model.proofs.DueLaws.{grows_steps, grows_windows}
 use Rattle.ledger_model.proofs.GrowLaws.{root_kept, grows_asked, grows_close, grows_with, grows_job, grows_size}
 use Rattle.ledger_model.proofs.KeepLaws.{journals_close, journals_wider}
@@ -301,11 +301,7 @@ judged_pegged {q} making h step (OccultClue clue count given) some p attends =
     untimed q h step.after some (subst (PeggedFrom q h) (sym attends) p) (own_refusal real_limits h (OccultClue clue count given)) (clue_occult_journal (size h) clue count given) (λ time. cc)
 judged_pegged {q} making h step (Purge to told given) some p attends =
     untimed q h step.after some (subst (PeggedFrom q h) (sym attends) p) (own_refusal real_limits h (Purge to told given)) (purge_journal h to given) (λ time. cc)
-judged_pegged {q} making h step (Get n) some p attends = unplaced (own_refusal real_limits h (Get n)) h step.after (subst (PeggedFrom q h) (sym attends) p)
-judged_pegged {q} making h step (Prove n) some p attends = unplaced (own_refusal real_limits h (Prove n)) h step.after (subst (PeggedFrom q h) (sym attends) p)
-judged_pegged {q} making h step (Extend which m) some p attends = unplaced (own_refusal real_limits h (Extend which m)) h step.after (subst (PeggedFrom q h) (sym attends) p)
-judged_pegged {q} making h step (Clue clue) some p attends = unplaced (own_refusal real_limits h (Clue clue)) h step.after (subst (PeggedFrom q h) (sym attends) p)
-judged_pegged {q} making h step Head some p attends = unplaced (own_refusal real_limits h Head) h step.after (subst (PeggedFrom q h) (sym attends) p)
+judged_pegged {q} making h step (Ask query) some p attends = unplaced (own_refusal real_limits h (Ask query)) h step.after (subst (PeggedFrom q h) (sym attends) p)
 
 pub from_job : {q : ℕ} (making : Option Making) (h : History) (step : Step) (job : Job) → 0 < size h → PeggedFrom q h step.before → ChangesBy (judged_at h job) making step job → PeggedFrom q (after_job h step job) step.after
 unfolding after_job

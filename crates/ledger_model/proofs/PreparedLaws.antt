@@ -4,7 +4,7 @@ use Rattle.journal_record.specs.Entry.{Entry}
 use Rattle.ledger_model.specs.Dues.{due_of, dues}
 use Rattle.ledger_model.specs.Growing.{Grows}
 use Rattle.ledger_model.specs.History.{History, journals, size, id, first_leaf_digest}
-use Rattle.ledger_model.specs.Prepared.{Item, prepared_items, after_jobs, job_dues}
+use Rattle.ledger_model.specs.Prepared.{PreparedJob, prepared_items, after_jobs, job_dues}
 use Rattle.ledger_model.specs.Rules.{job_of, after_job, after_step, after_steps}
 use Rattle.ledger_model.specs.Scheme.{Scheme}
 use Rattle.ledger_model.specs.Step.{Step}
@@ -40,10 +40,10 @@ module _ (scheme : Scheme) (known : List ℕ) where
       ∙ ap (λ (k : List ℕ). due_of h step (job_of scheme k step.line) ∷ dues scheme (after_job h step (job_of scheme k step.line)) steps) (sym is)
 
 -- a job more
-pub after_jobs-more : (h : History) (items : List Item) (item : Item) → after_jobs h (items ++ item ∷ []) ≡ after_job (after_jobs h items) item.step item.job
+pub after_jobs-more : (h : History) (items : List PreparedJob) (item : PreparedJob) → after_jobs h (items ++ item ∷ []) ≡ after_job (after_jobs h items) item.step item.job
 after_jobs-more h [] item = refl
 after_jobs-more h (x ∷ xs) item = after_jobs-more (after_job h x.step x.job) xs item
 
-pub job_dues-more : (h : History) (items : List Item) (item : Item) → job_dues h (items ++ item ∷ []) ≡ job_dues h items ++ due_of (after_jobs h items) item.step item.job ∷ []
+pub job_dues-more : (h : History) (items : List PreparedJob) (item : PreparedJob) → job_dues h (items ++ item ∷ []) ≡ job_dues h items ++ due_of (after_jobs h items) item.step item.job ∷ []
 job_dues-more h [] item = refl
 job_dues-more h (x ∷ xs) item = ap (λ (l : List Due). due_of h x.step x.job ∷ l) (job_dues-more (after_job h x.step x.job) xs item)

@@ -23,7 +23,7 @@ use Rattle.ledger_model.specs.Step.{Step}
 use Rattle.ledger_model.specs.Texts.{told_reply, answer_for, answer_to, proof_reply, extension_reply}
 use Rattle.ledger_model.specs.declared.answer.Answer.{Answer}
 use Rattle.ledger_model.specs.declared.answer.Answer.TheVariants.{Reply}
-use Rattle.ledger_model.specs.declared.job.Job.TheVariants.{Prove, Extend}
+use Rattle.ledger_model.specs.declared.job.Job.TheVariants.{Ask}
 use Rattle.ledger_model.specs.declared.outcome.Outcome.TheVariants.{Reading}
 use Rattle.ledger_model.specs.declared.outcome.Query.{Query}
 use Rattle.ledger_model.specs.declared.outcome.Query.TheVariants as query
@@ -73,23 +73,23 @@ same_size h = ap length (journals_close h)
 told_answer : (h : History) (step : Step) (refusal : Option AnyRefusal) (q : Query) → refusal ≡ None → answer_for h step (judged_outcome refusal (Reading q)) ≡ Reply (told_reply h step q)
 told_answer h step refusal q none = ap (λ o. answer_for h step (judged_outcome o (Reading q))) none
 
-pub kept_is_proved : (h : History) (step : Step) (n : ℕ) → point h ≤ n → n < size h → step.failed ≡ false → answer_to h step (Prove n) ≡ Reply (proof_reply (shown_of (close h) step.after n))
+pub kept_is_proved : (h : History) (step : Step) (n : ℕ) → point h ≤ n → n < size h → step.failed ≡ false → answer_to h step (Ask (query.Prove n)) ≡ Reply (proof_reply (shown_of (close h) step.after n))
 unfolding answer_to outcome
 kept_is_proved h step n kept less well =
     let g = close h in
     let none = none_refuses g n (omega (arith, kept, same_point h)) (omega (arith, less, same_size h)) in
-    told_answer g step (own_refusal real_limits g (Prove n)) (query.Prove n) (ap (λ o. first_refusal (o ∷ [])) none)
+    told_answer g step (own_refusal real_limits g (Ask (query.Prove n))) (query.Prove n) (ap (λ o. first_refusal (o ∷ [])) none)
     ∙ ap (λ v. Reply (cond v (Refused NotaryFault) (proof_reply (shown_of g step.after n)))) well
 
-pub kept_is_extended : (h : History) (step : Step) (m : ℕ) → 0 < m → m ≤ size h → point h ≤ m → answer_to h step (Extend Ledger m) ≡ Reply (extension_reply Ledger m (size (close h)) (root (close h) (size (close h))) (extension_in (close h) m))
+pub kept_is_extended : (h : History) (step : Step) (m : ℕ) → 0 < m → m ≤ size h → point h ≤ m → answer_to h step (Ask (query.Extend Ledger m)) ≡ Reply (extension_reply Ledger m (size (close h)) (root (close h) (size (close h))) (extension_in (close h) m))
 unfolding answer_to outcome
 kept_is_extended h step m some le kept =
     let g = close h in
     let none = none_stands g m some (omega (arith, le, same_size h)) (omega (arith, kept, same_point h)) in
-    told_answer g step (own_refusal real_limits g (Extend Ledger m)) (query.Extend Ledger m) (ap (λ o. first_refusal (o ∷ [])) none)
+    told_answer g step (own_refusal real_limits g (Ask (query.Extend Ledger m))) (query.Extend Ledger m) (ap (λ o. first_refusal (o ∷ [])) none)
 
 pub list_is_extended : (h : History) (step : Step) (m : ℕ) → 0 < m → m ≤ length step.after → step.failed ≡ false
-    → answer_to h step (Extend Notary m) ≡ Reply (extension_reply Notary m (length step.after) (mth sha256 step.after) (list_extension step.after m))
+    → answer_to h step (Ask (query.Extend Notary m)) ≡ Reply (extension_reply Notary m (length step.after) (mth sha256 step.after) (list_extension step.after m))
 unfolding answer_to outcome
 list_is_extended h step m some le well =
     let reply = extension_reply Notary m (length step.after) (mth sha256 step.after) (list_extension step.after m) in

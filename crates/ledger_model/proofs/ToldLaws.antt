@@ -9,7 +9,7 @@ use Rattle.ledger_model.specs.History.{History, size}
 use Rattle.ledger_model.specs.Numbers.{repeated, unless_repeated}
 use Rattle.ledger_model.specs.Outcomes.{record_outcome, accepted_outcome, placed_as, placed_journal}
 use Rattle.ledger_model.specs.declared.job.Job.{Job}
-use Rattle.ledger_model.specs.declared.job.Job.TheVariants.{Refused, Append, NewMember, Anchor, Occult, OccultClue, Purge, Get, Prove, Extend, Clue, Head}
+use Rattle.ledger_model.specs.declared.job.Job.TheVariants.{Refused, Append, NewMember, Anchor, Occult, OccultClue, Purge, Ask}
 use Rattle.ledger_model.specs.declared.outcome.Outcome.TheVariants as outcomes
 use Rattle.ledger_model.specs.declared.outcome.PlacedJournal.{PlacedJournal}
 
@@ -32,11 +32,7 @@ placed_told h (Some stamp) Anchor journal is = told_as h (time_journal (size h) 
 placed_told h stamp (Occult target leaf given) journal is = told_as h _ journal is
 placed_told h stamp (OccultClue clue count given) journal is = told_as h _ journal is
 placed_told h stamp (Purge p told given) journal is = told_as h _ journal is
-placed_told h stamp (Get n) journal is = absurd (none-some journal is)
-placed_told h stamp (Prove n) journal is = absurd (none-some journal is)
-placed_told h stamp (Extend which m) journal is = absurd (none-some journal is)
-placed_told h stamp (Clue clue) journal is = absurd (none-some journal is)
-placed_told h stamp Head journal is = absurd (none-some journal is)
+placed_told h stamp (Ask query) journal is = absurd (none-some journal is)
 
 told_record : (h : History) (again : Option ℕ) (one : Entry) (placed : PlacedJournal) → record_outcome h again one ≡ outcomes.Placed placed → unless_repeated again (Some one) ≢ None
 told_record h None one placed is = λ none. none-some one (sym none)
@@ -52,8 +48,4 @@ told_placed h (Some stamp) Anchor placed is = λ none. none-some _ (sym none)
 told_placed h stamp (Occult target leaf given) placed is = λ none. none-some _ (sym none)
 told_placed h stamp (OccultClue clue count given) placed is = λ none. none-some _ (sym none)
 told_placed h stamp (Purge p told given) placed is = λ none. none-some _ (sym none)
-told_placed h stamp (Get n) placed is = absurd cc
-told_placed h stamp (Prove n) placed is = absurd cc
-told_placed h stamp (Extend which m) placed is = absurd cc
-told_placed h stamp (Clue clue) placed is = absurd cc
-told_placed h stamp Head placed is = absurd cc
+told_placed h stamp (Ask query) placed is = absurd cc

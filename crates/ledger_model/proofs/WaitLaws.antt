@@ -39,7 +39,7 @@ use Rattle.ledger_model.specs.declared.answer.Answer.{Answer}
 use Rattle.ledger_model.specs.declared.answer.Answer.TheVariants.{Reply, Receipt}
 use Rattle.ledger_model.specs.declared.due.Due.{Due}
 use Rattle.ledger_model.specs.declared.job.Job.{Job}
-use Rattle.ledger_model.specs.declared.job.Job.TheVariants.{Refused, Append, NewMember, Anchor, Occult, OccultClue, Purge, Get, Prove, Extend, Clue, Head}
+use Rattle.ledger_model.specs.declared.job.Job.TheVariants.{Refused, Append, NewMember, Anchor, Occult, OccultClue, Purge, Ask}
 use Rattle.ledger_model.proofs.DueLaws.{answer_kept}
 use Rattle.ledger_model.proofs.RepeatLaws.{leaf_there, point_before, repeated_within}
 use Rattle.ledger_model.specs.declared.outcome.Outcome.TheVariants.{Reading}
@@ -167,6 +167,13 @@ extension_waits h step Notary m none =
       | false ↦ elim (size_refusal (length step.after) m) as (λ o. IsPlain h (reply_unless o told)) [ Some why ↦ (tt, tt) | None ↦ (tt, tt) ]
     ]
 
+told_waits : (h : History) (step : Step) (q : Query) → h.waiting ≡ [] → IsPlain h (told_reply h step q)
+told_waits h step (query.Get n) none = get_told (IsPlain h) h n (λ why. (tt, tt)) (λ header content who. (tt, tt)) (λ header who. (tt, tt))
+told_waits h step (query.Prove n) none = told_proof (IsPlain h) h step n (tt, tt) (λ m leaf lo hi bytes. (tt, tt))
+told_waits h step (query.Extend tree m) none = extension_waits h step tree m none
+told_waits h step (query.Clue clue) none = (tt, tt)
+told_waits h step query.Head none = head_waits h step none
+
 asked_waits : (h : History) (step : Step) (refusal : Option Refusal) (q : Query) → IsPlain h (told_reply h step q) → IsWaiting (after_judgement refusal None h) (answer_for h step (judged_outcome refusal (Reading q)))
 asked_waits h step None q told = told
 asked_waits h step (Some refusal) q told = (tt, tt)
@@ -181,11 +188,7 @@ answer_waits h step Anchor settled = anchor_waits h step (own_refusal real_limit
 answer_waits h step (Occult target leaf given) settled = placed_waits h step (own_refusal real_limits h (Occult target leaf given)) (occult_journal (size h) target leaf given)
 answer_waits h step (OccultClue clue count given) settled = placed_waits h step (own_refusal real_limits h (OccultClue clue count given)) (clue_occult_journal (size h) clue count given)
 answer_waits h step (Purge p told given) settled = placed_waits h step (own_refusal real_limits h (Purge p told given)) (purge_journal h p given)
-answer_waits h step (Get n) settled = get_told (IsPlain h) h n (λ why. (tt, tt)) (λ header content who. (tt, tt)) (λ header who. (tt, tt))
-answer_waits h step (Prove n) settled = asked_waits h step (own_refusal real_limits h (Prove n)) (query.Prove n) (told_proof (IsPlain h) h step n (tt, tt) (λ m leaf lo hi bytes. (tt, tt)))
-answer_waits h step (Extend tree m) settled = asked_waits h step (own_refusal real_limits h (Extend tree m)) (query.Extend tree m) (extension_waits h step tree m (settled refl))
-answer_waits h step (Clue clue) settled = (tt, tt)
-answer_waits h step Head settled = head_waits h step (settled refl)
+answer_waits h step (Ask query) settled = asked_waits h step (own_refusal real_limits h (Ask query)) query (told_waits h step query (settled refl))
 
 -- journals in blocks
 
@@ -212,6 +215,17 @@ of_head P Q f (reply.Extension Notary m size root proof) x = tt
 of_head P Q f (reply.Clue count kept) x = tt
 of_head P Q f (reply.Head id size root blocks point notary_size notary_root) x = f size root x
 of_head P Q f (reply.Refused refusal) x = tt
+
+-- a reply that is no receipt has each
+pub none_each : (P : ℕ → Digest → Type 0) (r : AnyReply) → OfReceipt (λ jsn leaf. ⊥) r → OfReceipt P r
+none_each P (reply.Placed jsn leaf block size root stamp) none = absurd none
+none_each P (reply.Whole header content who) none = tt
+none_each P (reply.Occulted header who) none = tt
+none_each P (reply.Proof n leaf lo hi proof) none = tt
+none_each P (reply.Extension which m size root proof) none = tt
+none_each P (reply.Clue count kept) none = tt
+none_each P (reply.Head id size root blocks point notary_size notary_root) none = tt
+none_each P (reply.Refused refusal) none = tt
 
 heads_wider : (bs more : List (List Entry)) (r : AnyReply) → Begins bs more → OfHead (IsHeadOf (journals_of bs)) r → OfHead (IsHeadOf (journals_of more)) r
 heads_wider bs more r b x =

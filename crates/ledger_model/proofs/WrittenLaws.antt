@@ -7,8 +7,6 @@ use Rattle.ledger_bytes.specs.Digests.{digest}
 use Rattle.ledger_bytes.specs.declared.digest.Digest.{Digest}
 use Rattle.journal_record.specs.Entry.{Entry}
 use Rattle.script_lines.specs.Receipts.{Told, told_text, whole_lines, IsAmong, OfReceipt, EachReceipt, OfHead, AllFit, AllHeads, IsLineOf, IsLineWithHead, IsOneOf, IsReceipted}
-use Rattle.script_lines.specs.declared.reply.Reply as replies
-use Rattle.script_lines.specs.declared.reply.Reply.TheVariants.{Placed, Whole, Occulted, Proof, Extension, Clue, Head, Refused}
 use Rattle.script_lines.proofs.ReceiptLaws.{receipted, none_receipted, line_written}
 use Rattle.ledger_model.specs.Dues.{due_replies, due_line, due_lines, HasLeaf, IsHeadOf, IsIn, AllIn}
 use Rattle.ledger_model.specs.Growing.{Grows}
@@ -18,21 +16,11 @@ use Rattle.ledger_model.specs.declared.answer.Answer.{Answer}
 use Rattle.ledger_model.specs.declared.answer.Answer.TheVariants.{Reply, Receipt}
 use Rattle.ledger_model.specs.declared.due.Due.{Due}
 use Rattle.ledger_model.proofs.GrowLaws.{end_of-grows, end_of-le, root_kept}
-use Rattle.ledger_model.proofs.WaitLaws.{leaf_within}
+use Rattle.ledger_model.proofs.WaitLaws.{leaf_within, none_each}
 
 pub lines_told : (f : History) (ds : List Due) → due_lines f ds ≡ told_text (due_replies f ds)
 lines_told f [] = refl
 lines_told f (due ∷ ds) = ap (λ (l : List ℕ). due_line f due ++ l) (lines_told f ds)
-
-none_each : (P : ℕ → Digest → Type 0) (r : replies.Reply) → OfReceipt (λ jsn leaf. ⊥) r → OfReceipt P r
-none_each P (Placed jsn leaf block size root stamp) none = absurd none
-none_each P (Whole header content who) none = tt
-none_each P (Occulted header who) none = tt
-none_each P (Proof n leaf lo hi proof) none = tt
-none_each P (Extension which m size root proof) none = tt
-none_each P (Clue count kept) none = tt
-none_each P (Head id size root blocks point notary_size notary_root) none = tt
-none_each P (Refused refusal) none = tt
 
 one_in : (f : History) (blocks : List (List Entry)) (answer : Answer) → IsIn blocks answer → OfReceipt (HasLeaf (journals_of blocks)) (reply_in f answer)
 one_in f blocks (Reply reply) plain = none_each (HasLeaf (journals_of blocks)) reply plain.0

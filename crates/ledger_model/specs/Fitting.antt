@@ -7,7 +7,7 @@ use Rattle.journal_record.specs.Entry.{content_digest_of, who_digest_of}
 use Rattle.journal_record.specs.declared.approval.Approval.{Approval}
 use Rattle.script_lines.specs.Limits.{is_of_form}
 use Rattle.ledger_model.specs.declared.job.Job.{Job}
-use Rattle.ledger_model.specs.declared.job.Job.TheVariants.{Refused, Append, NewMember, Anchor, Occult, OccultClue, Purge, Get, Prove, Extend, Clue, Head}
+use Rattle.ledger_model.specs.declared.job.Job.TheVariants.{Refused, Append, NewMember, Anchor, Occult, OccultClue, Purge, Ask}
 
 -- whether an approval is this member's, with a proof no longer than a line may give
 abbrev pub fits_approval : ℕ → Approval → Bool
@@ -29,8 +29,4 @@ fits_job (OccultClue clue count given) =
     nat_le (length given) APPROVAL_LIMIT && list_all (λ by. nat_le (length by.proof) PROOF_LIMIT) given
 fits_job (Purge p told given) =
     nat_le (length given) APPROVAL_LIMIT && list_all (λ by. nat_le (length by.proof) PROOF_LIMIT) given
-fits_job (Get n) = true
-fits_job (Prove n) = true
-fits_job (Extend which m) = true
-fits_job (Clue clue) = true
-fits_job Head = true
+fits_job (Ask query) = true

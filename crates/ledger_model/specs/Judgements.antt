@@ -17,8 +17,10 @@ use Rattle.ledger_model.specs.Numbers.{number_taken, repeated, unless_repeated}
 use Rattle.ledger_model.specs.Proofs.{prove_refusal, extend_refusal}
 use Rattle.ledger_model.specs.Targets.{kind_at, leaf_at, hider, shown_with}
 use Rattle.ledger_model.specs.declared.job.Job.{Job}
-use Rattle.ledger_model.specs.declared.job.Job.TheVariants.{Refused, Append, NewMember, Anchor, Occult, OccultClue, Purge, Get, Prove, Extend, Clue, Head}
+use Rattle.ledger_model.specs.declared.job.Job.TheVariants.{Refused, Append, NewMember, Anchor, Occult, OccultClue, Purge, Ask}
 use Rattle.ledger_model.specs.declared.limits.Limits.{Limits}
+use Rattle.ledger_model.specs.declared.outcome.Query.{Query}
+use Rattle.ledger_model.specs.declared.outcome.Query.TheVariants.{Get, Prove, Extend, Clue, Head}
 
 -- how many journals of a history are kept, which are those from the point on
 abbrev pub kept_count : History → ℕ
@@ -93,6 +95,15 @@ purge_judgements limits h p told given =
     life_fullness limits h
     ∷ purge_row (size h) (point h) (kind_at h p) (digest (root h p)) (keys h) (purge_needs h p) p told given
 
+-- what may refuse what is asked, in its order: an earlier size of the notary's list is judged by the notary's answer
+abbrev pub ask_judgements : History → Query → List (Option Refusal)
+ask_judgements h (Get n) = []
+ask_judgements h (Prove n) = prove_refusal h n ∷ []
+ask_judgements h (Extend Ledger m) = extend_refusal h m ∷ []
+ask_judgements h (Extend Notary m) = []
+ask_judgements h (Clue clue) = []
+ask_judgements h Head = []
+
 -- what may refuse a job by the history alone, in its order: one equation for each kind of job
 abbrev pub own_judgements : Limits → History → Job → List (Option Refusal)
 own_judgements limits h (Refused refusal) = Some refusal ∷ []
@@ -102,12 +113,7 @@ own_judgements limits h Anchor = hard_fullness limits h ∷ []
 own_judgements limits h (Occult target leaf given) = occult_judgements limits h target leaf given
 own_judgements limits h (OccultClue clue count given) = clue_occult_judgements limits h clue count given
 own_judgements limits h (Purge p told given) = purge_judgements limits h p told given
-own_judgements limits h (Get n) = []
-own_judgements limits h (Prove n) = prove_refusal h n ∷ []
-own_judgements limits h (Extend Ledger m) = extend_refusal h m ∷ []
-own_judgements limits h (Extend Notary m) = []
-own_judgements limits h (Clue clue) = []
-own_judgements limits h Head = []
+own_judgements limits h (Ask query) = ask_judgements h query
 
 -- why a job is refused by the history alone: the first that is there of all that may refuse it
 abbrev pub own_refusal : Limits → History → Job → Option Refusal

@@ -17,9 +17,7 @@ use Rattle.ledger_model.specs.declared.job.Job.TheVariants as job
 use Rattle.ledger_model.specs.declared.limits.Limits.{Limits}
 use Rattle.ledger_model.specs.declared.outcome.Outcome.{Outcome}
 use Rattle.ledger_model.specs.declared.outcome.PlacedJournal.{PlacedJournal}
-use Rattle.ledger_model.specs.declared.outcome.Outcome.TheVariants.{Refused, Placed, Again, Reading}
-use Rattle.ledger_model.specs.declared.outcome.Query.{Query}
-use Rattle.ledger_model.specs.declared.outcome.Query.TheVariants as query
+use Rattle.ledger_model.specs.declared.outcome.Outcome.TheVariants.{Refused, Placed, Again, StampWanted, Reading}
 use Rattle.ledger_model.specs.declared.view.View.{View}
 use Rattle.ledger_model.specs.declared.view.View.TheVariants.{Absent, Purged, Occulted, Whole}
 
@@ -33,11 +31,7 @@ placed_journal h stamp job.Anchor = option_map (time_journal (size h)) stamp
 placed_journal h stamp (job.Occult target leaf given) = Some (occult_journal (size h) target leaf given)
 placed_journal h stamp (job.OccultClue clue count given) = Some (clue_occult_journal (size h) clue count given)
 placed_journal h stamp (job.Purge p told given) = Some (purge_journal h p given)
-placed_journal h stamp (job.Get n) = None
-placed_journal h stamp (job.Prove n) = None
-placed_journal h stamp (job.Extend which m) = None
-placed_journal h stamp (job.Clue clue) = None
-placed_journal h stamp job.Head = None
+placed_journal h stamp (job.Ask query) = None
 
 -- the history with a journal more, which waits in the open block
 abbrev pub with_waiting : Option Entry → History → History
@@ -53,16 +47,6 @@ after_judgement None journal h = with_waiting journal h
 unfoldable pub with_job : Limits → Option Stamp → History → Job → History
 with_job limits stamp h job = after_judgement (own_refusal limits h job) (placed_journal h stamp job) h
 
--- what a job asks for, where it asks
-abbrev pub query_of : Job → Option Query
-query_of job.Anchor = Some query.Stamp
-query_of (job.Get n) = Some (query.Get n)
-query_of (job.Prove n) = Some (query.Prove n)
-query_of (job.Extend which m) = Some (query.Extend which m)
-query_of (job.Clue clue) = Some (query.Clue clue)
-query_of job.Head = Some query.Head
-query_of other = None
-
 -- what is told of a journal that was placed: its number, its leaf digest and its header's bytes
 abbrev pub placed_with : ℕ → Entry → PlacedJournal
 placed_with jsn journal = record { jsn = jsn; leaf = digest (leaf_digest journal); header = spelling journal.header }
@@ -76,12 +60,12 @@ abbrev pub record_outcome : History → Option ℕ → Entry → Outcome
 record_outcome h None journal = placed_as (size h) journal
 record_outcome h (Some n) journal = Again n (digest (leaf_at h n))
 
--- what comes of an accepted anchor: without a stamp it asks for one
+-- what comes of an accepted anchor: without a stamp it wants one
 abbrev pub anchor_outcome : History → Option Stamp → Outcome
-anchor_outcome h None = Reading query.Stamp
+anchor_outcome h None = StampWanted
 anchor_outcome h (Some stamp) = placed_as (size h) (time_journal (size h) stamp)
 
--- what comes of a job that nothing refuses: a journal is placed, or was placed before, or something is read
+-- what comes of a job that nothing refuses: a journal is placed, or was placed before, or a stamp is wanted, or something is read
 abbrev pub accepted_outcome : History → Option Stamp → Job → Outcome
 accepted_outcome h stamp (job.Refused refusal) = Refused refusal
 accepted_outcome h stamp (job.Append member clue content content_digest request by who number) =
@@ -91,28 +75,25 @@ accepted_outcome h stamp job.Anchor = anchor_outcome h stamp
 accepted_outcome h stamp (job.Occult target leaf given) = placed_as (size h) (occult_journal (size h) target leaf given)
 accepted_outcome h stamp (job.OccultClue clue count given) = placed_as (size h) (clue_occult_journal (size h) clue count given)
 accepted_outcome h stamp (job.Purge p told given) = placed_as (size h) (purge_journal h p given)
-accepted_outcome h stamp (job.Get n) = Reading (query.Get n)
-accepted_outcome h stamp (job.Prove n) = Reading (query.Prove n)
-accepted_outcome h stamp (job.Extend which m) = Reading (query.Extend which m)
-accepted_outcome h stamp (job.Clue clue) = Reading (query.Clue clue)
-accepted_outcome h stamp job.Head = Reading query.Head
+accepted_outcome h stamp (job.Ask query) = Reading query
 
 -- a refusal, where there is one, in place of what would come of a job
 abbrev pub judged_outcome : Option Refusal → Outcome → Outcome
 judged_outcome (Some refusal) outcome = Refused refusal
 judged_outcome None outcome = outcome
 
--- what comes of a job that is judged against a history, by these limits and with this stamp: refused, placed, or something
--- to read
+-- what comes of a job that is judged against a history, by these limits and with this stamp: refused, placed, a stamp that is
+-- wanted, or something to read
 unfoldable pub outcome : Limits → Option Stamp → History → Job → Outcome
 outcome limits stamp h job = judged_outcome (own_refusal limits h job) (accepted_outcome h stamp job)
 
--- only a job that asks is told to read, and it is told what it asks for
+-- only an anchor wants a stamp, and only a job that asks is told to read, which is what it asks for
 abbrev pub AsksFor : Job → Outcome → Type 0
-AsksFor job (Refused refusal) = ⊤
-AsksFor job (Placed placed) = ⊤
-AsksFor job (Again jsn leaf) = ⊤
-AsksFor job (Reading query) = query_of job ≡ Some query
+AsksFor asked (Refused refusal) = ⊤
+AsksFor asked (Placed placed) = ⊤
+AsksFor asked (Again jsn leaf) = ⊤
+AsksFor asked StampWanted = asked ≡ job.Anchor
+AsksFor asked (Reading query) = asked ≡ job.Ask query
 
 -- What of journal n can be shown, by the first of these that holds: it isn't there, it was purged, its content is hidden, it
 -- is whole. `a_purge_takes_what_is_in_front` and `an_occult_hides_its_target` say how that changes.

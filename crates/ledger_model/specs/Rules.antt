@@ -13,7 +13,8 @@ use Rattle.ledger_model.specs.Outcomes.{with_job}
 use Rattle.ledger_model.specs.Scheme.{Scheme}
 use Rattle.ledger_model.specs.Step.{Step}
 use Rattle.ledger_model.specs.declared.job.Job.{Job}
-use Rattle.ledger_model.specs.declared.job.Job.TheVariants.{Refused, Append, NewMember, Anchor, Occult, OccultClue, Purge, Get, Prove, Extend, Clue, Head}
+use Rattle.ledger_model.specs.declared.job.Job.TheVariants.{Refused, Append, NewMember, Anchor, Occult, OccultClue, Purge, Ask}
+use Rattle.ledger_model.specs.declared.outcome.Query.TheVariants.{Get, Prove, Extend, Clue, Head}
 
 -- what a line that was read asks for, on the ledger with this id: one equation for each verb, and a refusal where it wasn't
 -- read
@@ -25,11 +26,11 @@ job_for scheme id (Ok line.Anchor) = Anchor
 job_for scheme id (Ok (line.Occult target leaf given)) = occult_job scheme id target leaf given
 job_for scheme id (Ok (line.OccultClue name count given)) = clue_occult_job scheme id name count given
 job_for scheme id (Ok (line.Purge p told given)) = purge_job scheme id p told given
-job_for scheme id (Ok (line.Get n)) = Get n
-job_for scheme id (Ok (line.Prove n)) = Prove n
-job_for scheme id (Ok (line.Extend which m)) = Extend which m
-job_for scheme id (Ok (line.Clue name)) = Clue (clue_of name)
-job_for scheme id (Ok line.Head) = Head
+job_for scheme id (Ok (line.Get n)) = Ask (Get n)
+job_for scheme id (Ok (line.Prove n)) = Ask (Prove n)
+job_for scheme id (Ok (line.Extend which m)) = Ask (Extend which m)
+job_for scheme id (Ok (line.Clue name)) = Ask (Clue (clue_of name))
+job_for scheme id (Ok line.Head) = Ask Head
 
 -- what the bytes of a line ask for, on the ledger with this id
 unfoldable pub job_of : Scheme → List ℕ → List ℕ → Job

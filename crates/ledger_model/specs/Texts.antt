@@ -29,9 +29,9 @@ use Rattle.ledger_model.specs.declared.answer.Answer.{Answer}
 use Rattle.ledger_model.specs.declared.answer.Answer.TheVariants.{Reply, Receipt}
 use Rattle.ledger_model.specs.declared.job.Job.{Job}
 use Rattle.ledger_model.specs.declared.outcome.Outcome.{Outcome}
-use Rattle.ledger_model.specs.declared.outcome.Outcome.TheVariants.{Refused, Placed, Again, Reading}
+use Rattle.ledger_model.specs.declared.outcome.Outcome.TheVariants.{Refused, Placed, Again, StampWanted, Reading}
 use Rattle.ledger_model.specs.declared.outcome.Query.{Query}
-use Rattle.ledger_model.specs.declared.outcome.Query.TheVariants.{Stamp as StampOf, Get, Prove, Extend, Clue, Head}
+use Rattle.ledger_model.specs.declared.outcome.Query.TheVariants.{Get, Prove, Extend, Clue, Head}
 
 -- the numbers of a clue's journals that are kept, in order: what `clue` lists beside the count of all that there ever were
 abbrev pub kept_with : History → Digest → List ℕ
@@ -62,17 +62,17 @@ told_reply h step (Extend Notary m) =
     if step.failed then reply.Refused NotaryFault
     else reply_unless (size_refusal (length step.after) m)
     (extension_reply Notary m (length step.after) (mth sha256 step.after) (list_extension step.after m))
-told_reply h step StampOf = reply.Refused (no_stamp step)
 told_reply h step Head =
     if step.failed then reply.Refused NotaryFault
     else reply.Head (digest (id h)) (size h) (digest (root h (size h))) (blocks h) (point h) (length step.after) (digest (mth sha256 step.after))
 
 -- the answer to a job that is judged against h, by what came of it: a refusal, a receipt that waits for its block's end, one that
--- is told once more, or what is read
+-- is told once more, why there is no stamp, or what is read
 abbrev pub answer_for : History → Step → Outcome → Answer
 answer_for h step (Refused refusal) = Reply (reply.Refused refusal)
 answer_for h step (Placed placed) = Receipt placed.jsn placed.leaf (stamp_of step)
 answer_for h step (Again jsn leaf) = Receipt jsn leaf None
+answer_for h step StampWanted = Reply (reply.Refused (no_stamp step))
 answer_for h step (Reading query) = Reply (told_reply h step query)
 
 -- the answer to a job, judged against all that was placed before it

@@ -3,9 +3,9 @@
 ghost use Rattle.std.specs.Prelude.{◌≡◌};
 ghost use Rattle.ledger_model.specs.Rules.{closes_before, closes_after};
 
+use crate::Query;
 use journal_record::Approval;
 use ledger_bytes::{Bytes, Digest, Items, Refusal};
-use script_lines::Which;
 
 /// What a line of a script asks for, with everything that the line alone defines.
 #[derive(Debug, Drop)]
@@ -67,29 +67,8 @@ pub enum Job {
         /// Who approves it, in the order in which they were given.
         given: Items<Approval>,
     },
-    /// A journal.
-    Get {
-        /// The journal's number.
-        n: u64,
-    },
-    /// The proof of a journal.
-    Prove {
-        /// The journal's number.
-        n: u64,
-    },
-    /// The proof that the ledger or the notary's list goes on from an earlier size.
-    Extend {
-        which: Which,
-        /// The earlier size.
-        m: u64,
-    },
-    /// The journals of a clue.
-    Clue {
-        /// The digest of the clue's name, or 32 zero bytes for no clue.
-        clue: Digest,
-    },
-    /// Where the ledger stands.
-    Head,
+    /// It asks for something, and places nothing.
+    Ask(Query),
 }
 
 impl Job {
@@ -103,11 +82,7 @@ impl Job {
             | Job::Occult { .. }
             | Job::OccultClue { .. }
             | Job::Purge { .. }
-            | Job::Get { .. }
-            | Job::Prove { .. }
-            | Job::Extend { .. }
-            | Job::Clue { .. }
-            | Job::Head => true,
+            | Job::Ask(_) => true,
         }
     }
 
@@ -117,14 +92,7 @@ impl Job {
     {
         match self {
             Job::Anchor | Job::Occult { .. } | Job::OccultClue { .. } | Job::Purge { .. } => true,
-            Job::Refused(_)
-            | Job::Append { .. }
-            | Job::NewMember { .. }
-            | Job::Get { .. }
-            | Job::Prove { .. }
-            | Job::Extend { .. }
-            | Job::Clue { .. }
-            | Job::Head => false,
+            Job::Refused(_) | Job::Append { .. } | Job::NewMember { .. } | Job::Ask(_) => false,
         }
     }
 }

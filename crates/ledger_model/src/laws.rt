@@ -55,6 +55,7 @@ ghost use Rattle.ledger_model.specs.declared.job.Job.{Job};
 ghost use Rattle.ledger_model.specs.declared.job.Job.TheVariants as jobs;
 ghost use Rattle.ledger_model.specs.declared.outcome.Outcome.TheVariants as outcomes;
 ghost use Rattle.ledger_model.specs.declared.outcome.PlacedJournal.{PlacedJournal};
+ghost use Rattle.ledger_model.specs.declared.outcome.Query.TheVariants as queries;
 ghost use Rattle.ledger_model.specs.declared.view.View.TheVariants as views;
 
 /// The windows of a script are its lines in order, none lost. Each but the last has 4,096 lines or
@@ -385,12 +386,15 @@ pub fn the_bounds_are_nearest()
 /// beginning of the notary's list. Where the notary is called it may fail instead.
 pub fn what_is_kept_is_proved()
     ensures journals { (h : History) (step : Step) (n : ℕ) → point h ≤ n → n < size h → step.failed ≡ false
-        → answer_to h step (jobs.Prove n) ≡ answers.Reply (proof_reply (shown_of (close h) step.after n)) }
+        → answer_to h step (jobs.Ask (queries.Prove n))
+        ≡ answers.Reply (proof_reply (shown_of (close h) step.after n)) }
     ensures ledger { (h : History) (step : Step) (m : ℕ) → 0 < m → m ≤ size h → point h ≤ m
-        → answer_to h step (jobs.Extend Ledger m) ≡ answers.Reply (extension_reply Ledger m (size (close h))
+        → answer_to h step (jobs.Ask (queries.Extend Ledger m))
+        ≡ answers.Reply (extension_reply Ledger m (size (close h))
         (root (close h) (size (close h))) (extension_in (close h) m)) }
     ensures notary { (h : History) (step : Step) (m : ℕ) → 0 < m → m ≤ length step.after
         → step.failed ≡ false
-        → answer_to h step (jobs.Extend Notary m) ≡ answers.Reply (extension_reply Notary m (length step.after)
+        → answer_to h step (jobs.Ask (queries.Extend Notary m))
+        ≡ answers.Reply (extension_reply Notary m (length step.after)
         (mth sha256 step.after) (list_extension step.after m)) }
 {}

@@ -18,7 +18,7 @@ use Rattle.ledger_open.specs.Ahead.{BlockWasRead, IsStop, WereRead, place_behind
 use Rattle.ledger_open.specs.Damages.{IsDamage, IsReadTo}
 use Rattle.ledger_open.specs.Opening.{Known, known_from, HasRead}
 use Rattle.block_file.specs.Places.{place_of_record}
-use Rattle.ledger_open.specs.Taking.{Headed, Goes, TakesBlock, IsBadBlock}
+use Rattle.ledger_open.specs.Replaying.{Headed, Goes, TakesBlock, IsBadBlock}
 use Rattle.ledger_open.specs.declared.ahead.Ahead.{Ahead}
 use Rattle.ledger_open.specs.declared.ahead.Hashed.{Hashed}
 use Rattle.ledger_open.specs.declared.ahead.Stop.{Stop}

@@ -7,7 +7,7 @@ use Rattle.std.proofs.lemmas.List.{nil_from_length, take-append-drop}
 use Rattle.std.proofs.lemmas.List.Folds.{list_any-append}
 use Rattle.block_file.specs.File.{IsSettled, open_blocks, whole_file}
 use Rattle.block_file.specs.Head.{front_of, generation_of, version_in}
-use Rattle.block_file.specs.FileView.{gate_of}
+use Rattle.block_file.specs.FileView.{gate_of, HasTail}
 use Rattle.block_file.specs.declared.file.BlockFile.{BlockFile}
 use Rattle.journal_record.specs.Blocks.{written_blocks}
 use Rattle.journal_record.specs.Entry.{Entry}
@@ -22,7 +22,6 @@ use Rattle.ledger_model.specs.History.{History, journals, journals_of, size, poi
 use Rattle.ledger_model.specs.Targets.{is_hidden, is_hidden_by, hides}
 use Rattle.pseudo_genesis.specs.Bases.{base_spelling}
 use Rattle.twin_file.proofs.HeadLaws.{tail_size, generation_is as file_generation}
-use Rattle.twin_file.specs.Places.{HasTail}
 use Rattle.twin_file.specs.Twin.{choice, IsPassed, next_generation}
 use Rattle.ledger_open.specs.Cutting.{FallsAway, IsBaseAt, IsCutAt, first_gate, gate_behind}
 use Rattle.ledger_open.specs.Erasing.{is_given_up}

@@ -35,7 +35,7 @@ use Rattle.block_file.specs.Places.{body_from, place_at, place_of_record, places
 use Rattle.ledger_open.specs.Places.{entry_at}
 use Rattle.ledger_open.specs.Standing.{ground}
 use Rattle.ledger_open.specs.Starts.{IsStart}
-use Rattle.ledger_open.specs.Taking.{Headed, IsBadBlock}
+use Rattle.ledger_open.specs.Replaying.{Headed, IsBadBlock}
 use Rattle.block_file.specs.declared.place.PlaceAt.{PlaceAt}
 use Rattle.ledger_open.proofs.BegunLaws.{begun_start, readto_start, begun_more}
 use Rattle.ledger_open.proofs.GoesLaws.{first_goes}

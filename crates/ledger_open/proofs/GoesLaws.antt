@@ -31,7 +31,7 @@ use Rattle.pseudo_genesis.specs.declared.base.Base.{Base}
 use Rattle.ledger_open.specs.Opening.{GoesOn}
 use Rattle.ledger_open.specs.Standing.{AllKept, SameButHidden, Parts, floor_from}
 use Rattle.ledger_open.specs.Starts.{IsBaseOf, IsDecoded}
-use Rattle.ledger_open.specs.Taking.{GoesAs, Goes}
+use Rattle.ledger_open.specs.Replaying.{GoesAs, Goes}
 use Rattle.ledger_open.proofs.KeptLaws.{all_kept, same_back, same_weaker, header_map_same}
 use Rattle.ledger_open.proofs.LikeLaws.{serves_alike, count_kept}
 use Rattle.ledger_open.proofs.NextLaws.{lawful_front, next_one}

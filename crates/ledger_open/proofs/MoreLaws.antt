@@ -30,7 +30,7 @@ use Rattle.ledger_open.specs.Opening.{Known, known_from, HasTaken, HasRead, HasK
 use Rattle.block_file.specs.Places.{body_from, record_len, place_of_record, places_in, places_at, after_at}
 use Rattle.ledger_open.specs.Standing.{floor_from}
 use Rattle.ledger_open.specs.Starts.{IsDecoded, AreFounded, AreLegal, HasBase, HasDigest, IsStart, IsFormErr, base_in}
-use Rattle.ledger_open.specs.Taking.{Headed, Goes, TakesBlock, IsBadBlock}
+use Rattle.ledger_open.specs.Replaying.{Headed, Goes, TakesBlock, IsBadBlock}
 use Rattle.block_file.specs.declared.place.PlaceAt.{PlaceAt}
 use Rattle.ledger_open.proofs.BegunLaws.{readto_start, begun_more, begun_ends}
 use Rattle.ledger_open.proofs.FirstLaws.{headed_read, bad_read, some_of}

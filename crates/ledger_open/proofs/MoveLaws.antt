@@ -7,12 +7,12 @@ use Rattle.block_file.specs.declared.file.BlockFile.{BlockFile}
 use Rattle.ledger_disk.proofs.Guarding.{settled_image}
 use Rattle.ledger_disk.specs.Disk.{State, MayLeave, settled_state}
 use Rattle.twin_file.proofs.HeadLaws.{generation_is}
-use Rattle.twin_file.proofs.OpenLaws.{chosen}
+use Rattle.twin_file.proofs.OpenLaws.{chosen, whole_front}
 use Rattle.twin_file.specs.Images.{AllShut, AllOpenToEither, IsCopied, IsCopying, IsQuiet, KeepsPassed, LeavesFront}
 use Rattle.twin_file.specs.Places.{IsBuiltCopy}
 use Rattle.twin_file.specs.Twin.{choice, IsTaken, IsPassed, OpensTo, next_generation}
 use Rattle.ledger_open.specs.Purging.{MayMove, IsEither, AllEither}
-use Rattle.ledger_open.proofs.OldLaws.{whole_front, front_passed}
+use Rattle.ledger_open.proofs.OldLaws.{front_passed}
 
 -- ---- two of a kind
 

@@ -1,11 +1,10 @@
 -- A front of a file that was there.
 use Rattle.std.proofs.Common.{◌≡◌, inl, inr, ℕ, ◌+◌, ◌-◌, ◌<◌, ◌≤◌, List, length, take, drop, sym, ◌∙◌, ap, subst, arith, length-take}
 use Rattle.std.proofs.lemmas.Bool.{cases_lt}
-use Rattle.std.proofs.lemmas.List.{get_or-take, drop-take, take-take, take_all}
+use Rattle.std.proofs.lemmas.List.{get_or-take, drop-take, take-take}
 use Rattle.std.specs.Int.{from_be_bytes, w64}
 use Rattle.block_file.specs.Head.{HasHead, is_format, generation_of, number_at, version_in}
-use Rattle.ledger_disk.proofs.Guarding.{settled_image}
-use Rattle.ledger_disk.specs.Disk.{State, MayLeave}
+use Rattle.ledger_disk.specs.Disk.{State}
 use Rattle.twin_file.proofs.OpenLaws.{scrap_passed}
 use Rattle.twin_file.specs.Images.{KeepsPassed, LeavesFront}
 use Rattle.ledger_open.specs.Heads.{edition_from, edition_of}
@@ -58,16 +57,6 @@ front_old generation file image has one less front = elim (cases_lt (length imag
 pub old_front : (generation : ℕ) (file image : List ℕ) → IsOld generation file → image ≡ take (length image) file → IsOld generation image
 old_front generation file image (inl short) front = inl (omega (arith, short, ap length front, length-take (length image) file))
 old_front generation file image (inr old) front = front_old generation file image old.0 old.1 old.2 front
-
--- what was there is a front of itself
-pub whole_front : (file image : List ℕ) → image ≡ file → image ≡ take (length image) file
-whole_front file image is = is ∙ sym (ap (λ (l : List ℕ). take (length l) file) is ∙ take_all (length file) file (omega arith))
-
-pub same_front : (old new : State) → new ≡ old → LeavesFront old new
-same_front old new same quiet image left = whole_front old.seen image (settled_image old.seen image (subst (λ (s : State). MayLeave s image) (same ∙ quiet) left))
-
-pub after_front : (old mid new : State) → mid ≡ old → LeavesFront mid new → LeavesFront old new
-after_front old mid new same leaves = subst (λ (s : State). LeavesFront s new) same leaves
 
 -- what gives way does so in front
 pub front_passed : (old new : State) → LeavesFront old new → KeepsPassed old new

@@ -27,7 +27,7 @@ use Rattle.ledger_model.specs.Lawful.{AllGather, gathers}
 use Rattle.pseudo_genesis.specs.declared.base.Base.{Base}
 use Rattle.ledger_open.specs.Damages.{CanShare, IsNotNext}
 use Rattle.ledger_open.specs.Standing.{floor_from}
-use Rattle.ledger_open.specs.Taking.{Headed, Goes, IsOther, TakesAllOf, TakesBlock, IsBadBlock}
+use Rattle.ledger_open.specs.Replaying.{Headed, Goes, IsOther, TakesAllOf, TakesBlock, IsBadBlock}
 use Rattle.ledger_open.proofs.GoesLaws.{goes_more, goes_closed}
 use Rattle.ledger_open.proofs.NextLaws.{gather_take, behind_more}
 

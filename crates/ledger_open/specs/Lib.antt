@@ -7,7 +7,7 @@ pub mod Founding
 pub mod Growing
 pub mod Opening
 pub mod Ahead
-pub mod Taking
+pub mod Replaying
 pub mod Erasing
 pub mod Pieces
 pub mod Cutting

@@ -2,7 +2,7 @@
 use Rattle.std.specs.Prelude.{◌≡◌, ◌⊎◌, ℕ, ◌+◌, Bool, false, IsTrue, List, [], length, take, drop, Option, Result, Err, MatchResult}
 use Rattle.block_file.specs.File.{IsSettled}
 use Rattle.block_file.specs.Head.{IsShut, HasHead, number_at}
-use Rattle.block_file.specs.FileView.{base_len_of, base_digest_of, gate_of}
+use Rattle.block_file.specs.FileView.{base_len_of, base_digest_of, gate_of, HasTail}
 use Rattle.block_file.specs.declared.file.BlockFile.{BlockFile}
 use Rattle.block_file.specs.declared.failure.FileErr.{FileErr}
 use Rattle.block_file.specs.declared.failure.FileErr.TheVariants as files
@@ -16,13 +16,14 @@ use Rattle.ledger_model.specs.Lawful.{IsLawful}
 use Rattle.ledger_model.specs.Targets.{is_hidden}
 use Rattle.pseudo_genesis.specs.declared.base.Base.{Base}
 use Rattle.twin_file.specs.Twin.{open_of, IsTaken, IsReopenErr}
-use Rattle.twin_file.specs.Which.{file_of}
+use Rattle.twin_file.specs.Which.{in_a_of, file_of}
+use Rattle.twin_file.specs.declared.twin.Twin.{Twin}
 use Rattle.ledger_open.specs.Damages.{IsDamage, IsReadTo}
 use Rattle.block_file.specs.Places.{places_at, after_at}
 use Rattle.ledger_open.specs.Heads.{Edition}
 use Rattle.ledger_open.specs.Starts.{IsDecoded, IsBaseOf, AreLegal, HasOwnPurge}
 use Rattle.ledger_open.specs.Standing.{floor_from, HasBlocks, Parts, SameButHidden}
-use Rattle.ledger_open.specs.Taking.{Goes}
+use Rattle.ledger_open.specs.Replaying.{Goes}
 use Rattle.ledger_open.specs.declared.failure.OpenErr.{OpenErr}
 use Rattle.ledger_open.specs.declared.opened.Opened.{Opened}
 use Rattle.block_file.specs.declared.place.PlaceAt.{PlaceAt}
@@ -212,6 +213,26 @@ WereSettled result a b = result ≡ Err DiskFault → IsSettled a × IsSettled b
 abbrev pub AreUnchanged : State → State → State → State → Type 0
 AreUnchanged a b a_new b_new = (a_new ≡ a) × (b_new ≡ b)
 
+-- what the disk of the open file holds
+abbrev pub open_bytes : Twin → DiskState → DiskState → State
+open_bytes twin a b = open_of (in_a_of twin) a.bytes b.bytes
+
+-- the length that this disk tells reaches behind the open file's tail gate
+abbrev pub HasOpenTail : Twin → DiskState → DiskState → Type 0
+HasOpenTail twin a b = HasTail (open_of (in_a_of twin) a.told b.told) (file_of twin)
+
+-- the open file's disk
+abbrev pub open_state : Twin → DiskState → DiskState → DiskState
+open_state twin a b = open_of (in_a_of twin) a b
+
+-- what holds of the bytes of the open file's disk, before and after a call, where it tells them
+abbrev pub OfOpen : Bool → Twin → (State → State → Type 0) → DiskState → DiskState → DiskState → DiskState → Type 0
+OfOpen tells twin holds a b a_new b_new = IsTrue tells → holds (open_state twin a b).bytes (open_state twin a_new b_new).bytes
+
 -- what holds of the bytes of both disks, before and after a call
 abbrev pub OfBoth : (State → State → State → State → Type 0) → DiskState → DiskState → DiskState → DiskState → Type 0
 OfBoth holds a b a_new b_new = holds a.bytes b.bytes a_new.bytes b_new.bytes
+
+-- what holds of the bytes of both disks, before and after a call, where they tell them
+abbrev pub OfTold : Bool → (State → State → State → State → Type 0) → DiskState → DiskState → DiskState → DiskState → Type 0
+OfTold tells holds a b a_new b_new = IsTrue tells → OfBoth holds a b a_new b_new

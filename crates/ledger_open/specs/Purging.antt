@@ -1,6 +1,6 @@
 -- How a purge is finished: what stays is copied into the other file, which is opened, and the old one is wiped.
 use Rattle.std.specs.Prelude.{◌≡◌, ◌⊎◌, ℕ, ◌+◌, ◌-◌, ◌^◌, ◌<◌, ◌≤◌, Bool, false, IsTrue, not, List, [], ◌∷◌, ◌++◌, length, take, drop, map, Option, Some, None, ⊤}
-use Rattle.block_file.specs.File.{IsSettled, IsShutAt}
+use Rattle.block_file.specs.File.{IsSettled, IsShutAt, open_blocks}
 use Rattle.block_file.specs.Head.{HasHead, front_of, generation_of, version_in}
 use Rattle.block_file.specs.FileView.{gate_of}
 use Rattle.journal_record.specs.Entry.{Entry}
@@ -59,6 +59,10 @@ pub record IsAtGate (l : Ledger) : Type 0 where
 -- a file of this generation behind this base, with what another one has between these places, and a tail gate
 abbrev pub copied_file : ℕ → List ℕ → ℕ → ℕ → List ℕ → List ℕ
 copied_file generation base from to file = (front_of 1 generation base ++ take (to - from) (drop from file)) ++ 0 ∷ []
+
+-- between these places a file has these blocks, each with its gate
+abbrev pub HasBetween : ℕ → ℕ → List ℕ → List (List ℕ) → Type 0
+HasBetween from to file blocks = take (to - from) (drop from file) ≡ open_blocks blocks
 
 -- of a book only what journals from this one on need is left
 pub record KeepsFrom (p : ℕ) (old new : Kept) : Type 0 where

@@ -1,9 +1,8 @@
 //! A file of the first version is carried over into the other file, which has the second.
 
 ghost use Rattle.std.specs.Prelude.{◌≡◌, ◌≢◌, ◌⊎◌, IsTrue, IfOk, IfErr, OnOk, None};
-ghost use Rattle.block_file.specs.FileView.{gate_of, base_len_of};
+ghost use Rattle.block_file.specs.FileView.{gate_of, base_len_of, HasTail};
 ghost use Rattle.ledger_disk.specs.Disk.{KeepsLength};
-ghost use Rattle.twin_file.specs.Places.{HasTail};
 ghost use Rattle.twin_file.specs.Twin.{open_of};
 ghost use Rattle.twin_file.specs.Which.{in_a_of, format_in, file_of, copy_of};
 ghost use Rattle.ledger_open.specs.Carrying.{IsBaseToCarry, MayCarry, StaysNewer, StandsCarrying, WasCarried};

@@ -2,15 +2,14 @@
 
 ghost use Rattle.std.specs.Prelude.{◌≡◌, ◌⊎◌, ◌+◌, ◌-◌, ◌<◌, ◌≤◌, ℕ, false, IsTrue, IfErr, OnOk, slice_get, option_copied, option_map};
 ghost use Rattle.block_file.specs.Head.{CountsAlone};
-ghost use Rattle.block_file.specs.FileView.{gate_of};
+ghost use Rattle.block_file.specs.FileView.{gate_of, HasTail};
 ghost use Rattle.ledger_book.specs.Books.{Serves};
 ghost use Rattle.ledger_disk.specs.Disk.{KeepsLength};
 ghost use Rattle.ledger_model.specs.History.{History, journals, size};
-ghost use Rattle.twin_file.specs.Places.{HasTail};
-ghost use Rattle.twin_file.specs.Twin.{open_of, other_of};
+ghost use Rattle.twin_file.specs.Twin.{other_of};
 ghost use Rattle.twin_file.specs.Which.{in_a_of, file_of};
 ghost use Rattle.ledger_open.specs.Erasing.{AllInside, GivesUp, WritesZeros, StandsMeanwhile, LeavesShown, LeavesErased, LeavesRest, WritesSome, is_given_up};
-ghost use Rattle.ledger_open.specs.Opening.{CountsOpen};
+ghost use Rattle.ledger_open.specs.Opening.{open_state, CountsOpen, OfOpen};
 ghost use Rattle.ledger_open.specs.declared.failure.OpenErr.TheVariants as errors;
 
 use crate::{OpenErr, Opened, Places};
@@ -102,34 +101,26 @@ pub(crate) fn finish_in<D: Disk>(
 /// Gives up each content that the last journal hides and none before it does: zeros are written over it, where they don't
 /// stand already, and at last the disk is synced. A fault of the disk is the only error.
 pub fn finish_erasures<D: Disk>(a: &mut D, b: &mut D, opened: &mut Opened) -> Result<(), OpenErr>
-    requires told { HasTail (open_of (in_a_of opened.old.twin) (D.state a.old) (D.state b.old)).told
+    requires told { HasTail (open_state opened.old.twin (D.state a.old) (D.state b.old)).told
         (file_of opened.old.twin) }
     requires inside { AllInside (gate_of (file_of opened.old.twin)) opened.old.places.list }
-    ensures ok { OnOk result (IsTrue D.tells → GivesUp opened.old.book opened.old.places.list
-        (open_of (in_a_of opened.old.twin) (D.state a.old) (D.state b.old)).bytes
-        (open_of (in_a_of opened.old.twin) (D.state a.new) (D.state b.new)).bytes) }
-    ensures bytes { OnOk result (IsTrue D.tells → WritesZeros opened.old.book opened.old.places.list
-        (open_of (in_a_of opened.old.twin) (D.state a.old) (D.state b.old)).bytes
-        (open_of (in_a_of opened.old.twin) (D.state a.new) (D.state b.new)).bytes) }
-    ensures images { IsTrue D.tells → StandsMeanwhile opened.old.book opened.old.places.list
-        (open_of (in_a_of opened.old.twin) (D.state a.old) (D.state b.old)).bytes
-        (open_of (in_a_of opened.old.twin) (D.state a.new) (D.state b.new)).bytes }
-    ensures shown { IsTrue D.tells → LeavesShown opened.old.book opened.old.places.list
-        (open_of (in_a_of opened.old.twin) (D.state a.old) (D.state b.old)).bytes
-        (open_of (in_a_of opened.old.twin) (D.state a.new) (D.state b.new)).bytes }
-    ensures idle { IsTrue D.tells → LeavesErased opened.old.book opened.old.places.list
-        (open_of (in_a_of opened.old.twin) (D.state a.old) (D.state b.old)).bytes
-        (open_of (in_a_of opened.old.twin) (D.state a.new) (D.state b.new)).bytes }
-    ensures rest { IsTrue D.tells → LeavesRest opened.old.places.list
-        (open_of (in_a_of opened.old.twin) (D.state a.old) (D.state b.old)).bytes
-        (open_of (in_a_of opened.old.twin) (D.state a.new) (D.state b.new)).bytes }
-    ensures some { OnOk result (IsTrue D.tells → WritesSome opened.old.places.list
-        (open_of (in_a_of opened.old.twin) (D.state a.old) (D.state b.old)).bytes
-        (open_of (in_a_of opened.old.twin) (D.state a.new) (D.state b.new)).bytes) }
+    ensures ok { OnOk result (OfOpen D.tells opened.old.twin (GivesUp opened.old.book opened.old.places.list)
+        (D.state a.old) (D.state b.old) (D.state a.new) (D.state b.new)) }
+    ensures bytes { OnOk result (OfOpen D.tells opened.old.twin (WritesZeros opened.old.book opened.old.places.list)
+        (D.state a.old) (D.state b.old) (D.state a.new) (D.state b.new)) }
+    ensures images { OfOpen D.tells opened.old.twin (StandsMeanwhile opened.old.book opened.old.places.list)
+        (D.state a.old) (D.state b.old) (D.state a.new) (D.state b.new) }
+    ensures shown { OfOpen D.tells opened.old.twin (LeavesShown opened.old.book opened.old.places.list)
+        (D.state a.old) (D.state b.old) (D.state a.new) (D.state b.new) }
+    ensures idle { OfOpen D.tells opened.old.twin (LeavesErased opened.old.book opened.old.places.list)
+        (D.state a.old) (D.state b.old) (D.state a.new) (D.state b.new) }
+    ensures rest { OfOpen D.tells opened.old.twin (LeavesRest opened.old.places.list)
+        (D.state a.old) (D.state b.old) (D.state a.new) (D.state b.new) }
+    ensures some { OnOk result (OfOpen D.tells opened.old.twin (WritesSome opened.old.places.list)
+        (D.state a.old) (D.state b.old) (D.state a.new) (D.state b.new)) }
     ensures other { other_of (in_a_of opened.old.twin) (D.state a.new) (D.state b.new)
         ≡ other_of (in_a_of opened.old.twin) (D.state a.old) (D.state b.old) }
-    ensures told { HasTail (open_of (in_a_of opened.old.twin) (D.state a.new) (D.state b.new)).told
-        (file_of opened.old.twin) }
+    ensures told { HasTail (open_state opened.old.twin (D.state a.new) (D.state b.new)).told (file_of opened.old.twin) }
     ensures only { IfErr result (λ e. e ≡ errors.DiskFault) }
     ensures same { opened.new ≡ opened.old }
     ensures faults { CountsOpen result (D.state a.old).faults (D.state a.new).faults

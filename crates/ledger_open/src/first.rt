@@ -20,7 +20,7 @@ ghost use Rattle.ledger_model.specs.Limits.{AreWithin};
 ghost use Rattle.ledger_open.specs.Opening.{HasRead, IsReadErr, CountsRead, known_from};
 ghost use Rattle.block_file.specs.Places.{place_of_record};
 ghost use Rattle.ledger_open.specs.Starts.{IsStart};
-ghost use Rattle.ledger_open.specs.Taking.{Headed, IsBadBlock};
+ghost use Rattle.ledger_open.specs.Replaying.{Headed, IsBadBlock};
 ghost use Rattle.ledger_open.specs.declared.failure.OpenErr.TheVariants as errors;
 
 use crate::reading::Read;

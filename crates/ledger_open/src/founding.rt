@@ -7,7 +7,7 @@ ghost use Rattle.journal_record.specs.Blocks.{block_bytes, leaves_of};
 ghost use Rattle.ledger_disk.specs.Disk.{KeepsLength};
 ghost use Rattle.ledger_model.specs.Genesis.{HasKeys, new_ledger, genesis_journal};
 ghost use Rattle.ledger_model.specs.Limits.{AreWithin};
-ghost use Rattle.twin_file.specs.Places.{HasTail};
+ghost use Rattle.block_file.specs.FileView.{HasTail};
 ghost use Rattle.twin_file.specs.Which.{in_a_of, file_of, copy_of};
 ghost use Rattle.ledger_open.specs.Heads.{edition_from, edition_in};
 ghost use Rattle.ledger_open.specs.Founding.{IsOneOpen, IsFounded, LeavesFoundedOrShut, StaysFoundedOrShut};
@@ -53,7 +53,7 @@ struct Made {
 }
 
 // Makes all that takes memory, so that want of it leaves both disks alone.
-fn prepare(alloc: Global, genesis: &Genesis, limits: Limits) -> Result<Made, NoMemory>
+fn new_parts(alloc: Global, genesis: &Genesis, limits: Limits) -> Result<Made, NoMemory>
     requires { AreWithin limits }
     ensures known { IfOk result (λ made. Knows
         (known_from made.book made.places.list (after_at 64 (new_ledger genesis.now).closed))
@@ -125,7 +125,7 @@ pub fn init<D: Disk>(
     if is_open(b)? {
         return Err(OpenErr::Exists);
     }
-    let made = prepare(alloc, genesis, limits)?;
+    let made = new_parts(alloc, genesis, limits)?;
     match Twin::make(a, b, made.block.as_slice()) {
         Ok(twin) => Ok(Opened {
             book: made.book,

@@ -15,7 +15,7 @@ mod places;
 pub mod purging;
 mod reading;
 mod reopening;
-mod taking;
+mod replaying;
 
 pub use erasing::finish_erasures;
 pub use failure::OpenErr;

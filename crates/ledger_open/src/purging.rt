@@ -1,17 +1,16 @@
 //! A purge is finished: what stays is copied into the other file, and the old one is wiped.
 
-ghost use Rattle.std.specs.Prelude.{◌≡◌, ◌+◌, ◌-◌, ◌≤◌, [], ℕ, List, None, not, length, take, drop, IsTrue, IfOk, IfErr, OnOk};
-ghost use Rattle.block_file.specs.File.{open_blocks, whole_file};
+ghost use Rattle.std.specs.Prelude.{◌≡◌, ◌+◌, ◌-◌, ◌≤◌, [], ℕ, List, None, not, length, IsTrue, IfOk, IfErr, OnOk};
+ghost use Rattle.block_file.specs.File.{whole_file};
 ghost use Rattle.block_file.specs.Head.{CountsTwoAlone, front_of};
-ghost use Rattle.block_file.specs.FileView.{gate_of};
+ghost use Rattle.block_file.specs.FileView.{gate_of, HasTail};
 ghost use Rattle.ledger_disk.specs.Disk.{settled_state};
-ghost use Rattle.twin_file.specs.Places.{HasTail};
 ghost use Rattle.twin_file.specs.Twin.{open_of, other_of, next_generation};
 ghost use Rattle.twin_file.specs.Which.{in_a_of, generation_in, format_in, file_of, copy_of};
 ghost use Rattle.ledger_open.specs.Erasing.{AllInside};
-ghost use Rattle.ledger_open.specs.Opening.{CountsOpen};
+ghost use Rattle.ledger_open.specs.Opening.{open_bytes, CountsOpen, HasOpenTail};
 ghost use Rattle.ledger_open.specs.Cutting.{IsBaseAt, IsCutOf, IsPrepared};
-ghost use Rattle.ledger_open.specs.Purging.{copied_file, IsDone, IsHalfDone, LetsGo, MayLetGo, MayMove, AllEither, ledger_at};
+ghost use Rattle.ledger_open.specs.Purging.{copied_file, HasBetween, IsDone, IsHalfDone, LetsGo, MayLetGo, MayMove, AllEither, ledger_at};
 ghost use Rattle.ledger_open.specs.declared.failure.OpenErr.TheVariants as errors;
 ghost use Rattle.ledger_open.specs.declared.opened.Opened.{Opened as OpenedRecord};
 
@@ -72,7 +71,7 @@ pub fn base_bytes(alloc: Global, book: &Book, p: u64) -> Result<Bytes, NoMemory>
 }
 
 /// Takes the memory that finishing a purge needs, where one is left undone.
-pub fn prepare(alloc: Global, book: &Book, places: &Places) -> Result<Option<Purge>, NoMemory>
+pub fn prepare_purge(alloc: Global, book: &Book, places: &Places) -> Result<Option<Purge>, NoMemory>
     ensures { IfOk result (IsPrepared book.now places.now.list) }
 {
     match cut_of(book, places) {
@@ -93,34 +92,27 @@ pub(crate) fn move_over<D: Disk>(
     base: &[u8],
     gate: u64,
 ) -> Result<(), FileErr>
-    requires told { HasTail (open_of (in_a_of twin.old) (D.state a.old).told (D.state b.old).told)
-        (file_of twin.old) }
+    requires told { HasOpenTail twin.old (D.state a.old) (D.state b.old) }
     requires gate { gate ≤ gate_of (file_of twin.old) }
     ensures copied { OnOk result (IsTrue D.tells → (blocks : List (List ℕ))
-        → take (gate_of (file_of twin.old) - gate) (drop gate
-        (open_of (in_a_of twin.old) (D.state a.old).bytes (D.state b.old).bytes).seen) ≡ open_blocks blocks
-        → open_of (in_a_of twin.new) (D.state a.new).bytes (D.state b.new).bytes ≡ settled_state
+        → HasBetween gate (gate_of (file_of twin.old)) (open_bytes twin.old (D.state a.old) (D.state b.old)).seen blocks
+        → open_bytes twin.new (D.state a.new) (D.state b.new) ≡ settled_state
         (whole_file (front_of 1 (next_generation (generation_in twin.old)) base.now) blocks)) }
-    ensures bytes { OnOk result (IsTrue D.tells
-        → open_of (in_a_of twin.new) (D.state a.new).bytes (D.state b.new).bytes ≡ settled_state
+    ensures bytes { OnOk result (IsTrue D.tells → open_bytes twin.new (D.state a.new) (D.state b.new) ≡ settled_state
         (copied_file (next_generation (generation_in twin.old)) base.now gate (gate_of (file_of twin.old))
-        (open_of (in_a_of twin.old) (D.state a.old).bytes (D.state b.old).bytes).seen)) }
+        (open_bytes twin.old (D.state a.old) (D.state b.old)).seen)) }
     ensures wiped { OnOk result (IsTrue D.tells
         → other_of (in_a_of twin.new) (D.state a.new).bytes (D.state b.new).bytes ≡ settled_state []) }
     ensures images { IsTrue D.tells → (blocks : List (List ℕ))
         → MayMove (in_a_of twin.old) (generation_in twin.old) (D.state a.old).bytes (D.state b.old).bytes
-        → take (gate_of (file_of twin.old) - gate) (drop gate
-        (open_of (in_a_of twin.old) (D.state a.old).bytes (D.state b.old).bytes).seen) ≡ open_blocks blocks
-        → AllEither (in_a_of twin.old)
-        (open_of (in_a_of twin.old) (D.state a.old).bytes (D.state b.old).bytes).seen
+        → HasBetween gate (gate_of (file_of twin.old)) (open_bytes twin.old (D.state a.old) (D.state b.old)).seen blocks
+        → AllEither (in_a_of twin.old) (open_bytes twin.old (D.state a.old) (D.state b.old)).seen
         (whole_file (front_of 1 (next_generation (generation_in twin.old)) base.now) blocks)
         (D.state a.new).bytes (D.state b.new).bytes }
     ensures twin { OnOk result ((in_a_of twin.new ≡ not (in_a_of twin.old))
         × (generation_in twin.new ≡ next_generation (generation_in twin.old)) × (format_in twin.new ≡ 2)
-        × (copy_of twin.new ≡ None)
-        × (gate_of (file_of twin.new) ≡ 64 + length base.now + (gate_of (file_of twin.old) - gate))) }
-    ensures told { OnOk result (HasTail (open_of (in_a_of twin.new) (D.state a.new).told (D.state b.new).told)
-        (file_of twin.new)) }
+        × (copy_of twin.new ≡ None) × (gate_of (file_of twin.new) ≡ 64 + length base.now + (gate_of (file_of twin.old) - gate))) }
+    ensures told { OnOk result (HasOpenTail twin.new (D.state a.new) (D.state b.new)) }
     ensures faults { CountsTwoAlone result (D.state a.old).faults (D.state a.new).faults
         (D.state b.old).faults (D.state b.new).faults }
 {

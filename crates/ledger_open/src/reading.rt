@@ -17,7 +17,7 @@ ghost use Rattle.ledger_open.specs.declared.failure.OpenErr.TheVariants as error
 use crate::ahead::{Ahead, Stop, read_ahead};
 use crate::base::{begin_behind, read_base};
 use crate::first::read_first;
-use crate::taking::{take_all, take_beside};
+use crate::replaying::{take_all, take_beside};
 use crate::{OpenErr, Places};
 use block_file::{BlockFile, Damage};
 use ledger_book::Book;

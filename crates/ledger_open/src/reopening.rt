@@ -2,16 +2,15 @@
 
 ghost use Rattle.std.specs.Prelude.{◌≡◌, ◌≢◌, ◌⊎◌, ◌+◌, [], None, take, length, IsTrue, IfOk, IfErr, OnOk, OnErr};
 ghost use Rattle.block_file.specs.File.{IsSettled};
-ghost use Rattle.block_file.specs.FileView.{gate_of, base_len_of};
-ghost use Rattle.ledger_disk.specs.Disk.{settled_state, CountsFault};
+ghost use Rattle.block_file.specs.FileView.{gate_of, base_len_of, HasTail};
+ghost use Rattle.ledger_disk.specs.Disk.{settled_state};
 ghost use Rattle.ledger_model.specs.Limits.{AreWithin};
 ghost use Rattle.twin_file.specs.Images.{LeavesFront};
-ghost use Rattle.twin_file.specs.Places.{HasTail};
 ghost use Rattle.twin_file.specs.Twin.{open_of, other_of};
 ghost use Rattle.twin_file.specs.Which.{in_a_of, file_of, copy_of};
 ghost use Rattle.ledger_open.specs.Cutting.{IsPrepared};
 ghost use Rattle.ledger_open.specs.Heads.{edition_in, edition_of};
-ghost use Rattle.ledger_open.specs.Opening.{known_from, known_in, OfBoth, IsHeadOf, HasKnown, HasLawfulBlocks, IsOutside, IsReadErr, IsOpenErr, AreSettled, AreUnchanged, StandAsRead, WereSettled, CountsRead, CountsOpen};
+ghost use Rattle.ledger_open.specs.Opening.{known_from, known_in, open_bytes, HasOpenTail, OfBoth, OfTold, IsHeadOf, HasKnown, HasLawfulBlocks, IsOutside, IsReadErr, IsOpenErr, AreSettled, AreUnchanged, StandAsRead, WereSettled, CountsRead, CountsOpen};
 ghost use Rattle.ledger_open.specs.Purging.{ledger_at};
 ghost use Rattle.ledger_open.specs.Reopened.{KnowsMended, KnowsReopened, WasReadHere, IsHere, IsCleanStill, PairStandsStill, StandsTrimmed};
 ghost use Rattle.ledger_open.specs.declared.failure.OpenErr.{OpenErr as OpenErrRecord};
@@ -19,33 +18,16 @@ ghost use Rattle.ledger_open.specs.declared.failure.OpenErr.TheVariants as error
 
 use crate::carrying::{base_to_carry, carry};
 use crate::erasing::finish_erasures;
-use crate::purging::{Purge, complete, prepare};
+use crate::purging::{Purge, complete, prepare_purge};
 use crate::reading::read_file;
 use crate::{OpenErr, Opened};
 use ledger_disk::Disk;
 use ledger_model::Limits;
 use std::alloc::Global;
 use std::thread::Threads;
-use twin_file::Twin;
+use twin_file::{Twin, clear};
 
-// Cuts a file that isn't empty to nothing, for good. An empty one isn't touched, so a clean pair opens without a write.
-fn clear<D: Disk>(disk: &mut D) -> Result<(), OpenErr>
-    ensures ok { OnOk result (IsTrue D.tells → IsSettled (D.state disk.old).bytes
-        → (D.state disk.new).bytes ≡ settled_state []) }
-    ensures idle { IsTrue D.tells → (D.state disk.old).bytes.seen ≡ []
-        → (D.state disk.new).bytes ≡ (D.state disk.old).bytes }
-    ensures front { IsTrue D.tells → LeavesFront (D.state disk.old).bytes (D.state disk.new).bytes }
-    ensures err { IfErr result (λ e. e ≡ errors.DiskFault) }
-    ensures faults { CountsFault result (D.state disk.old).faults (D.state disk.new).faults }
-{
-    if disk.len()? > 0 {
-        disk.cut(0)?;
-        disk.sync()?;
-    }
-    Ok(())
-}
-
-// Clears the file that isn't the open one.
+// Cuts the file that isn't the open one to nothing, where it isn't empty.
 fn clear_other<D: Disk>(in_a: bool, a: &mut D, b: &mut D) -> Result<(), OpenErr>
     ensures ok { OnOk result (IsTrue D.tells → IsSettled (other_of in_a (D.state a.old).bytes (D.state b.old).bytes)
         → (other_of in_a (D.state a.new).bytes (D.state b.new).bytes) ≡ settled_state []) }
@@ -60,7 +42,12 @@ fn clear_other<D: Disk>(in_a: bool, a: &mut D, b: &mut D) -> Result<(), OpenErr>
     ensures faults { CountsOpen result (D.state a.old).faults (D.state a.new).faults
         (D.state b.old).faults (D.state b.new).faults }
 {
-    if in_a { clear(b) } else { clear(a) }
+    if in_a {
+        clear(b)?
+    } else {
+        clear(a)?
+    }
+    Ok(())
 }
 
 // Reads the file that was taken, which stands on this disk.
@@ -87,14 +74,12 @@ fn read_twin<R: Threads, D: Disk>(
     ensures faults { CountsRead result (D.state disk.old).faults (D.state disk.new).faults }
 {
     let mut twin = twin;
-    match read_file(rt, alloc, twin.file(), disk, limits) {
-        Ok(read) => Ok(Opened {
-            book: read.book,
-            twin,
-            places: read.places,
-        }),
-        Err(e) => Err(e),
-    }
+    let read = read_file(rt, alloc, twin.file(), disk, limits)?;
+    Ok(Opened {
+        book: read.book,
+        twin,
+        places: read.places,
+    })
 }
 
 // Reads the file that was taken.
@@ -106,13 +91,12 @@ fn read_pair<R: Threads, D: Disk>(
     b: &mut D,
     limits: Limits,
 ) -> Result<Opened, OpenErr>
-    requires told { HasTail (open_of (in_a_of twin) (D.state a.old).told (D.state b.old).told) (file_of twin) }
+    requires told { HasOpenTail twin (D.state a.old) (D.state b.old) }
     requires place { gate_of (file_of twin) ≡ 64 + base_len_of (file_of twin) }
-    requires head { IsTrue D.tells
-        → IsHeadOf (open_of (in_a_of twin) (D.state a.old).bytes (D.state b.old).bytes).seen (file_of twin) }
+    requires head { IsTrue D.tells → IsHeadOf (open_bytes twin (D.state a.old) (D.state b.old)).seen (file_of twin) }
     requires limits { AreWithin limits }
     ensures ok { IfOk result (λ opened. HasKnown D.tells
-        (open_of (in_a_of twin) (D.state a.old).bytes (D.state b.old).bytes).seen
+        (open_bytes twin (D.state a.old) (D.state b.old)).seen
         (known_from opened.book opened.places.list (gate_of (file_of opened.twin)))) }
     ensures same { IfOk result (λ opened. (in_a_of opened.twin ≡ in_a_of twin)
         × (edition_in opened.twin ≡ edition_in twin) × (copy_of opened.twin ≡ copy_of twin)) }
@@ -120,10 +104,10 @@ fn read_pair<R: Threads, D: Disk>(
     ensures told { IfOk result (λ opened. HasTail
         (open_of (in_a_of twin) (D.state a.new).told (D.state b.new).told) (file_of opened.twin)) }
     ensures err { IfErr result (λ e. IsTrue D.tells
-        → IsReadErr (open_of (in_a_of twin) (D.state a.old).bytes (D.state b.old).bytes).seen e) }
+        → IsReadErr (open_bytes twin (D.state a.old) (D.state b.old)).seen e) }
     ensures only { IfErr result (λ e. (e ≢ errors.Empty) × (e ≢ errors.Exists)) }
-    ensures state { IsTrue D.tells → AreUnchanged (D.state a.old).bytes (D.state b.old).bytes
-        (D.state a.new).bytes (D.state b.new).bytes }
+    ensures state { IsTrue D.tells → OfBoth AreUnchanged
+        (D.state a.old) (D.state b.old) (D.state a.new) (D.state b.new) }
     ensures faults { CountsOpen result (D.state a.old).faults (D.state a.new).faults
         (D.state b.old).faults (D.state b.new).faults }
 {
@@ -136,24 +120,22 @@ fn read_pair<R: Threads, D: Disk>(
 
 // Cuts what stands behind the open file's tail gate.
 fn trim_open<D: Disk>(a: &mut D, b: &mut D, twin: &mut Twin) -> Result<(), OpenErr>
-    requires told { HasTail (open_of (in_a_of twin.old) (D.state a.old).told (D.state b.old).told)
-        (file_of twin.old) }
+    requires told { HasOpenTail twin.old (D.state a.old) (D.state b.old) }
     ensures ok { OnOk result (IsTrue D.tells
-        → (open_of (in_a_of twin.old) (D.state a.new).bytes (D.state b.new).bytes)
+        → (open_bytes twin.old (D.state a.new) (D.state b.new))
         ≡ settled_state (take (gate_of (file_of twin.old) + 1)
-        (open_of (in_a_of twin.old) (D.state a.old).bytes (D.state b.old).bytes).seen)) }
+        (open_bytes twin.old (D.state a.old) (D.state b.old)).seen)) }
     ensures images { IsTrue D.tells → StandsTrimmed (gate_of (file_of twin.old))
-        (open_of (in_a_of twin.old) (D.state a.old).bytes (D.state b.old).bytes)
-        (open_of (in_a_of twin.old) (D.state a.new).bytes (D.state b.new).bytes) }
+        (open_bytes twin.old (D.state a.old) (D.state b.old))
+        (open_bytes twin.old (D.state a.new) (D.state b.new)) }
     ensures idle { OnErr result (IsTrue D.tells
-        → length (open_of (in_a_of twin.old) (D.state a.old).bytes (D.state b.old).bytes).seen
+        → length (open_bytes twin.old (D.state a.old) (D.state b.old)).seen
         ≡ gate_of (file_of twin.old) + 1
-        → (open_of (in_a_of twin.old) (D.state a.new).bytes (D.state b.new).bytes)
-        ≡ (open_of (in_a_of twin.old) (D.state a.old).bytes (D.state b.old).bytes)) }
+        → (open_bytes twin.old (D.state a.new) (D.state b.new))
+        ≡ (open_bytes twin.old (D.state a.old) (D.state b.old))) }
     ensures other { other_of (in_a_of twin.old) (D.state a.new) (D.state b.new)
         ≡ other_of (in_a_of twin.old) (D.state a.old) (D.state b.old) }
-    ensures told { OnOk result (HasTail (open_of (in_a_of twin.old) (D.state a.new).told (D.state b.new).told)
-        (file_of twin.old)) }
+    ensures told { OnOk result (HasOpenTail twin.old (D.state a.new) (D.state b.new)) }
     ensures same { twin.new ≡ twin.old }
     ensures only { IfErr result (λ e. e ≡ errors.DiskFault) }
     ensures faults { CountsOpen result (D.state a.old).faults (D.state a.new).faults
@@ -179,23 +161,18 @@ fn finish_open<D: Disk>(
     purge: Option<Purge>,
 ) -> Result<(), OpenErr>
     requires read { WasReadHere D.tells (ledger_at opened.old (D.state a.old).bytes (D.state b.old).bytes) }
-    requires told { HasTail (open_of (in_a_of opened.old.twin) (D.state a.old).told (D.state b.old).told)
-        (file_of opened.old.twin) }
+    requires told { HasOpenTail opened.old.twin (D.state a.old) (D.state b.old) }
     requires prepared { IsPrepared opened.old.book opened.old.places.list purge }
     ensures ok { OnOk result (KnowsMended D.tells (in_a_of opened.new.twin)
         (known_from opened.new.book opened.new.places.list (gate_of (file_of opened.new.twin)))
         (D.state a.old).bytes (D.state b.old).bytes (D.state a.new).bytes (D.state b.new).bytes) }
     ensures limits { opened.new.book.limits ≡ opened.old.book.limits }
-    ensures told { OnOk result (HasTail (open_of (in_a_of opened.new.twin) (D.state a.new).told (D.state b.new).told)
-        (file_of opened.new.twin)) }
+    ensures told { OnOk result (HasOpenTail opened.new.twin (D.state a.new) (D.state b.new)) }
     ensures edition { OnOk result (IsTrue D.tells → edition_in opened.new.twin
-        ≡ edition_of (open_of (in_a_of opened.new.twin)
-        (D.state a.new).bytes (D.state b.new).bytes).seen) }
+        ≡ edition_of (open_bytes opened.new.twin (D.state a.new) (D.state b.new)).seen) }
     ensures copy { OnOk result (copy_of opened.old.twin ≡ None → copy_of opened.new.twin ≡ None) }
-    ensures images { IsTrue D.tells → PairStandsStill
-        (D.state a.old).bytes (D.state b.old).bytes (D.state a.new).bytes (D.state b.new).bytes }
-    ensures clean { IsTrue D.tells → IsCleanStill
-        (D.state a.old).bytes (D.state b.old).bytes (D.state a.new).bytes (D.state b.new).bytes }
+    ensures images { OfTold D.tells PairStandsStill (D.state a.old) (D.state b.old) (D.state a.new) (D.state b.new) }
+    ensures clean { OfTold D.tells IsCleanStill (D.state a.old) (D.state b.old) (D.state a.new) (D.state b.new) }
     ensures only { IfErr result (λ e. e ≡ errors.DiskFault) }
     ensures faults { CountsOpen result (D.state a.old).faults (D.state a.new).faults
         (D.state b.old).faults (D.state b.new).faults }
@@ -216,56 +193,38 @@ fn open_pair<R: Threads, D: Disk>(
     b: &mut D,
     limits: Limits,
 ) -> Result<Opened, OpenErr>
-    requires told { HasTail (open_of (in_a_of twin) (D.state a.old).told (D.state b.old).told) (file_of twin) }
+    requires told { HasOpenTail twin (D.state a.old) (D.state b.old) }
     requires place { gate_of (file_of twin) ≡ 64 + base_len_of (file_of twin) }
-    requires head { IsTrue D.tells
-        → IsHeadOf (open_of (in_a_of twin) (D.state a.old).bytes (D.state b.old).bytes).seen (file_of twin) }
+    requires head { IsTrue D.tells → IsHeadOf (open_bytes twin (D.state a.old) (D.state b.old)).seen (file_of twin) }
     requires here { IsTrue D.tells → IsHere (in_a_of twin) (edition_in twin)
         (D.state a.old).bytes (D.state b.old).bytes }
     requires limits { AreWithin limits }
-    ensures ok { IfOk result (λ opened. KnowsReopened D.tells (in_a_of opened.twin)
-        (known_from opened.book opened.places.list (gate_of (file_of opened.twin)))
-        (D.state a.old).bytes (D.state b.old).bytes (D.state a.new).bytes (D.state b.new).bytes) }
+    ensures ok { IfOk result (λ opened. OfBoth (KnowsReopened D.tells (in_a_of opened.twin) (known_in opened))
+        (D.state a.old) (D.state b.old) (D.state a.new) (D.state b.new)) }
     ensures limits { IfOk result (λ opened. opened.book.limits ≡ limits) }
-    ensures told { IfOk result (λ opened. HasTail
-        (open_of (in_a_of opened.twin) (D.state a.new).told (D.state b.new).told) (file_of opened.twin)) }
+    ensures told { IfOk result (λ opened. HasOpenTail opened.twin (D.state a.new) (D.state b.new)) }
     ensures edition { IfOk result (λ opened. IsTrue D.tells → edition_in opened.twin
-        ≡ edition_of (open_of (in_a_of opened.twin)
-        (D.state a.new).bytes (D.state b.new).bytes).seen) }
+        ≡ edition_of (open_bytes opened.twin (D.state a.new) (D.state b.new)).seen) }
     ensures copy { IfOk result (λ opened. copy_of twin ≡ None → copy_of opened.twin ≡ None) }
     ensures err { IfErr result (λ e. IsTrue D.tells
-        → IsReadErr (open_of (in_a_of twin) (D.state a.old).bytes (D.state b.old).bytes).seen e) }
+        → IsReadErr (open_bytes twin (D.state a.old) (D.state b.old)).seen e) }
     ensures only { IfErr result (λ e. (e ≢ errors.Empty) × (e ≢ errors.Exists)) }
-    ensures same { IfErr result (λ e. e ≢ errors.DiskFault → IsTrue D.tells → AreUnchanged
-        (D.state a.old).bytes (D.state b.old).bytes (D.state a.new).bytes (D.state b.new).bytes) }
-    ensures kept { IsTrue D.tells
-        → HasLawfulBlocks (open_of (in_a_of twin) (D.state a.old).bytes (D.state b.old).bytes).seen
-        ⊎ AreUnchanged (D.state a.old).bytes (D.state b.old).bytes (D.state a.new).bytes (D.state b.new).bytes }
-    ensures images { IsTrue D.tells → PairStandsStill
-        (D.state a.old).bytes (D.state b.old).bytes (D.state a.new).bytes (D.state b.new).bytes }
-    ensures clean { IsTrue D.tells → IsCleanStill
-        (D.state a.old).bytes (D.state b.old).bytes (D.state a.new).bytes (D.state b.new).bytes }
+    ensures same { IfErr result (λ e. e ≢ errors.DiskFault → IsTrue D.tells → OfBoth AreUnchanged
+        (D.state a.old) (D.state b.old) (D.state a.new) (D.state b.new)) }
+    ensures kept { IsTrue D.tells → HasLawfulBlocks (open_bytes twin (D.state a.old) (D.state b.old)).seen
+        ⊎ OfBoth AreUnchanged (D.state a.old) (D.state b.old) (D.state a.new) (D.state b.new) }
+    ensures images { OfTold D.tells PairStandsStill (D.state a.old) (D.state b.old) (D.state a.new) (D.state b.new) }
+    ensures clean { OfTold D.tells IsCleanStill (D.state a.old) (D.state b.old) (D.state a.new) (D.state b.new) }
     ensures faults { CountsOpen result (D.state a.old).faults (D.state a.new).faults
         (D.state b.old).faults (D.state b.new).faults }
 {
     let mut twin = twin;
-    let base = match base_to_carry(alloc, &mut twin, a, b) {
-        Ok(base) => base,
-        Err(e) => return Err(e),
-    };
-    let mut opened = match read_pair(rt, alloc, twin, a, b, limits) {
-        Ok(opened) => opened,
-        Err(e) => return Err(e),
-    };
-    let purge = prepare(alloc, &opened.book, &opened.places)?;
-    match finish_open(a, b, &mut opened, purge) {
-        Ok(()) => {}
-        Err(e) => return Err(e),
-    }
-    match carry(a, b, &mut opened.twin, base) {
-        Ok(()) => Ok(opened),
-        Err(e) => Err(e),
-    }
+    let base = base_to_carry(alloc, &mut twin, a, b)?;
+    let mut opened = read_pair(rt, alloc, twin, a, b, limits)?;
+    let purge = prepare_purge(alloc, &opened.book, &opened.places)?;
+    finish_open(a, b, &mut opened, purge)?;
+    carry(a, b, &mut opened.twin, base)?;
+    Ok(opened)
 }
 
 /// Opens a ledger from its two disks. Both are synced before they are looked at. The open file is read once, from its
@@ -289,10 +248,9 @@ pub fn reopen<R: Threads, D: Disk>(
     ensures ok { IfOk result (λ opened. OfBoth (KnowsReopened D.tells (in_a_of opened.twin) (known_in opened))
         (D.state a.old) (D.state b.old) (D.state a.new) (D.state b.new)) }
     ensures limits { IfOk result (λ opened. opened.book.limits ≡ limits) }
-    ensures told { IfOk result (λ opened. HasTail
-        (open_of (in_a_of opened.twin) (D.state a.new).told (D.state b.new).told) (file_of opened.twin)) }
+    ensures told { IfOk result (λ opened. HasOpenTail opened.twin (D.state a.new) (D.state b.new)) }
     ensures edition { IfOk result (λ opened. IsTrue D.tells → edition_in opened.twin
-        ≡ edition_of (open_of (in_a_of opened.twin) (D.state a.new).bytes (D.state b.new).bytes).seen) }
+        ≡ edition_of (open_bytes opened.twin (D.state a.new) (D.state b.new)).seen) }
     ensures copy { IfOk result (λ opened. copy_of opened.twin ≡ None) }
     ensures err { IfErr result (λ e. IsTrue D.tells
         → IsOpenErr (D.state a.old).bytes.seen (D.state b.old).bytes.seen e) }
@@ -304,8 +262,7 @@ pub fn reopen<R: Threads, D: Disk>(
         → OfBoth StandAsRead (D.state a.old) (D.state b.old) (D.state a.new) (D.state b.new) }
     ensures images { IsTrue D.tells → WereSettled result (D.state a.old).bytes (D.state b.old).bytes
         → OfBoth PairStandsStill (D.state a.old) (D.state b.old) (D.state a.new) (D.state b.new) }
-    ensures clean { IsTrue D.tells
-        → OfBoth IsCleanStill (D.state a.old) (D.state b.old) (D.state a.new) (D.state b.new) }
+    ensures clean { OfTold D.tells IsCleanStill (D.state a.old) (D.state b.old) (D.state a.new) (D.state b.new) }
     ensures synced { IsTrue D.tells → OfBoth StandAsRead (D.state a.old) (D.state b.old) (D.state a.new) (D.state b.new)
         ⊎ OfBoth PairStandsStill (D.state a.old) (D.state b.old) (D.state a.new) (D.state b.new) }
     ensures faults { CountsOpen result (D.state a.old).faults (D.state a.new).faults

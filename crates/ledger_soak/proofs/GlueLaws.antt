@@ -16,7 +16,8 @@ use Rattle.ledger_model.specs.Rules.{job_of, judged_at, after_job}
 use Rattle.ledger_model.specs.Step.{Step}
 use Rattle.ledger_model.specs.Texts.{proof_reply, reply_in, answer_to}
 use Rattle.ledger_model.specs.declared.job.Job.{Job}
-use Rattle.ledger_model.specs.declared.job.Job.TheVariants.{Prove}
+use Rattle.ledger_model.specs.declared.job.Job.TheVariants.{Ask}
+use Rattle.ledger_model.specs.declared.outcome.Query.TheVariants as query
 use Rattle.ledger_model.proofs.GrowLaws.{close_none, close_settled}
 use Rattle.ledger_model.proofs.LawfulLaws.{some_journal}
 use Rattle.notary_ledger.specs.Notaries.{MemShown, memory_origin}
@@ -146,7 +147,7 @@ module _ (seed : ℕ) (run : Run) (x : IsUnderway seed run) where
 
     -- it was answered
     module _ (failed : Bool) (w : TakesWindow run.post.world new.post.world (notary_state n) (notary_state new.notary) (step failed) job) (open_now : new.post.ended ≡ false) (given : Option (List ℕ))
-        (line_is : (g : History) (m : ℕ) → job ≡ Prove m → Serves run.post.world.kept.book g → Pegged g run.notary.entries → Follows g run.notary.entries run.auditor → n.faults ≡ 0 → prove_refusal g m ≡ None
+        (line_is : (g : History) (m : ℕ) → job ≡ Ask (query.Prove m) → Serves run.post.world.kept.book g → Pegged g run.notary.entries → Follows g run.notary.entries run.auditor → n.faults ≡ 0 → prove_refusal g m ≡ None
         → given ≡ Some (reply_text 0 1 (proof_reply (shown_of g run.notary.entries m)))) where
       abbrev turn : Turn
       turn = record { step = step failed; fate = answered }

@@ -29,9 +29,10 @@ use Rattle.ledger_model.specs.Texts.{told_reply, answer_for, answer_to, proof_re
 use Rattle.ledger_model.specs.declared.answer.Answer.{Answer}
 use Rattle.ledger_model.specs.declared.answer.Answer.TheVariants.{Reply, Receipt}
 use Rattle.ledger_model.specs.declared.job.Job.{Job}
-use Rattle.ledger_model.specs.declared.job.Job.TheVariants.{Refused, Append, NewMember, Anchor, Occult, OccultClue, Purge, Get, Prove, Extend, Clue, Head}
+use Rattle.ledger_model.specs.declared.job.Job.TheVariants.{Refused, Append, NewMember, Anchor, Occult, OccultClue, Purge, Ask}
 use Rattle.ledger_model.specs.declared.outcome.Outcome.{Outcome}
 use Rattle.ledger_model.specs.declared.outcome.Outcome.TheVariants.{Reading}
+use Rattle.ledger_model.specs.declared.outcome.Query.{Query}
 use Rattle.ledger_model.specs.declared.outcome.Query.TheVariants as query
 use Rattle.ledger_model.proofs.GetLaws.{get_told}
 use Rattle.ledger_model.proofs.ProveLaws.{told_extension}
@@ -59,7 +60,15 @@ head_unproved g step =
     one_of step.failed (reply.Refused NotaryFault)
     (reply.Head (digest (id g)) (size g) (digest (root g (size g))) (blocks g) (point g) (length step.after) (digest (mth sha256 step.after))) refl refl
 
-accepted_unproved : (g : History) (step : Step) (job : Job) → ((n : ℕ) → job ≡ Prove n → ⊥) → Proves (answer_for g step (accepted_outcome g (stamp_of step) job))
+-- only to what asks for a proof one is told
+told_unproved : (g : History) (step : Step) (q : Query) → ((n : ℕ) → q ≡ query.Prove n → ⊥) → is_proof_reply (told_reply g step q) ≡ false
+told_unproved g step (query.Get n) other = get_told (λ r. is_proof_reply r ≡ false) g n (λ why. refl) (λ header content who. refl) (λ header who. refl)
+told_unproved g step (query.Prove n) other = absurd (other n refl)
+told_unproved g step (query.Extend which m) other = told_extension (λ r. is_proof_reply r ≡ false) g step which m refl refl (λ tree k size root bytes. refl)
+told_unproved g step (query.Clue clue) other = refl
+told_unproved g step query.Head other = head_unproved g step
+
+accepted_unproved : (g : History) (step : Step) (job : Job) → ((n : ℕ) → job ≡ Ask (query.Prove n) → ⊥) → Proves (answer_for g step (accepted_outcome g (stamp_of step) job))
 accepted_unproved g step (Refused why) other = refl
 accepted_unproved g step (Append member clue content content_digest request by who number) other = by_repeat (repeated g member number request)
   where
@@ -71,21 +80,16 @@ accepted_unproved g step Anchor other = anchor_unproved g step (stamp_of step)
 accepted_unproved g step (Occult target leaf given) other = refl
 accepted_unproved g step (OccultClue clue count given) other = refl
 accepted_unproved g step (Purge p told given) other = refl
-accepted_unproved g step (Get n) other = get_told (λ r. is_proof_reply r ≡ false) g n (λ why. refl) (λ header content who. refl) (λ header who. refl)
-accepted_unproved g step (Prove n) other = absurd (other n refl)
-accepted_unproved g step (Extend which m) other = told_extension (λ r. is_proof_reply r ≡ false) g step which m refl refl (λ tree k size root bytes. refl)
-accepted_unproved g step (Clue clue) other = refl
-accepted_unproved g step Head other = head_unproved g step
+accepted_unproved g step (Ask asked) other = told_unproved g step asked (λ n is. other n (ap Ask is))
 
-pub proves_only : (h : History) (step : Step) (job : Job) → ((n : ℕ) → job ≡ Prove n → ⊥) → is_reply is_proof_reply (answer_to h step job) ≡ false
+pub proves_only : (h : History) (step : Step) (job : Job) → ((n : ℕ) → job ≡ Ask (query.Prove n) → ⊥) → is_reply is_proof_reply (answer_to h step job) ≡ false
 unfolding answer_to outcome
 proves_only h step job other =
     let g = judged_at h job in
     unless_refused Proves g step (own_refusal real_limits g job) (accepted_outcome g (stamp_of step) job) (λ why. refl) (accepted_unproved g step job other)
 
 -- which journal is asked for, where the answer is a proof
-pub asks_for : (h : History) (step : Step) (job : Job) → is_reply is_proof_reply (answer_to h step job) ≡ true → (n : ℕ) × (job ≡ Prove n)
-asks_for h step (Prove n) is = (n, refl)
+pub asks_for : (h : History) (step : Step) (job : Job) → is_reply is_proof_reply (answer_to h step job) ≡ true → (n : ℕ) × (job ≡ Ask (query.Prove n))
 asks_for h step (Refused why) is = absurd (true≢false (sym is ∙ proves_only h step (Refused why) (λ n e. let bad : ⊥ = cc in bad)))
 asks_for h step (Append member clue content content_digest request by who number) is = absurd (true≢false (sym is ∙ proves_only h step (Append member clue content content_digest request by who number) (λ n e. let bad : ⊥ = cc in bad)))
 asks_for h step (NewMember number key by) is = absurd (true≢false (sym is ∙ proves_only h step (NewMember number key by) (λ n e. let bad : ⊥ = cc in bad)))
@@ -93,17 +97,23 @@ asks_for h step Anchor is = absurd (true≢false (sym is ∙ proves_only h step 
 asks_for h step (Occult target leaf given) is = absurd (true≢false (sym is ∙ proves_only h step (Occult target leaf given) (λ n e. let bad : ⊥ = cc in bad)))
 asks_for h step (OccultClue clue count given) is = absurd (true≢false (sym is ∙ proves_only h step (OccultClue clue count given) (λ n e. let bad : ⊥ = cc in bad)))
 asks_for h step (Purge p told given) is = absurd (true≢false (sym is ∙ proves_only h step (Purge p told given) (λ n e. let bad : ⊥ = cc in bad)))
-asks_for h step (Get m) is = absurd (true≢false (sym is ∙ proves_only h step (Get m) (λ n e. let bad : ⊥ = cc in bad)))
-asks_for h step (Extend which m) is = absurd (true≢false (sym is ∙ proves_only h step (Extend which m) (λ n e. let bad : ⊥ = cc in bad)))
-asks_for h step (Clue clue) is = absurd (true≢false (sym is ∙ proves_only h step (Clue clue) (λ n e. let bad : ⊥ = cc in bad)))
-asks_for h step Head is = absurd (true≢false (sym is ∙ proves_only h step Head (λ n e. let bad : ⊥ = cc in bad)))
+asks_for h step (Ask asked) is = by asked is where
+  other : (q : Query) → ((n : ℕ) → q ≡ query.Prove n → ⊥) → is_reply is_proof_reply (answer_to h step (Ask q)) ≡ true → (n : ℕ) × (Ask q ≡ Ask (query.Prove n))
+  other q none is = absurd (true≢false (sym is ∙ proves_only h step (Ask q) (λ n e. none n (cc e))))
+
+  by : (q : Query) → is_reply is_proof_reply (answer_to h step (Ask q)) ≡ true → (n : ℕ) × (Ask q ≡ Ask (query.Prove n))
+  by (query.Prove n) is = (n, refl)
+  by (query.Get m) is = other (query.Get m) (λ n e. let bad : ⊥ = cc in bad) is
+  by (query.Extend which m) is = other (query.Extend which m) (λ n e. let bad : ⊥ = cc in bad) is
+  by (query.Clue clue) is = other (query.Clue clue) (λ n e. let bad : ⊥ = cc in bad) is
+  by query.Head is = other query.Head (λ n e. let bad : ⊥ = cc in bad) is
 
 -- a proof is that of the journal that is asked for
 pub record IsProved (h : History) (step : Step) (n : ℕ) : Type 0 where
   pub unrefused : prove_refusal (close h) n ≡ None
-  pub answer_is : answer_to h step (Prove n) ≡ Reply (proof_reply (shown_of (close h) step.after n))
+  pub answer_is : answer_to h step (Ask (query.Prove n)) ≡ Reply (proof_reply (shown_of (close h) step.after n))
 
-pub proof_told : (h : History) (step : Step) (n : ℕ) → step.failed ≡ false → is_reply is_proof_reply (answer_to h step (Prove n)) ≡ true → IsProved h step n
+pub proof_told : (h : History) (step : Step) (n : ℕ) → step.failed ≡ false → is_reply is_proof_reply (answer_to h step (Ask (query.Prove n))) ≡ true → IsProved h step n
 unfolding answer_to outcome
 proof_told h step n unfailed is = by_refusal (prove_refusal (close h) n) refl where
   by_refusal : (o : Option AnyRefusal) → prove_refusal (close h) n ≡ o → IsProved h step n

@@ -15,6 +15,7 @@ ghost use Rattle.ledger_model.specs.History.{History, id, size};
 ghost use Rattle.ledger_model.specs.Rules.{job_of};
 ghost use Rattle.ledger_model.specs.Step.{Step};
 ghost use Rattle.ledger_model.specs.declared.job.Job.TheVariants as jobs;
+ghost use Rattle.ledger_model.specs.declared.outcome.Query.TheVariants as queries;
 ghost use Rattle.ledger_soak.specs.Lines as lines;
 ghost use Rattle.ledger_soak.specs.Runs.{IsPlaced, IsReady, IsUnderway, IsAnswered, IsInHand, ComesTo};
 ghost use Rattle.ledger_soak.specs.Soaks.{TellsSoak, IsSoaked, IsFaultless, silent_notary};
@@ -30,7 +31,7 @@ use crate::post::{Halt, Post};
 use crate::receipts::{Receipt, count_lost};
 use crate::summary::Summary;
 use crate::task::draw_task;
-use ledger_book::{Job, Prepared};
+use ledger_book::{Job, Prepared, Query};
 use ledger_bytes::{Bytes, NoMemory};
 use ledger_disk::Pick;
 use ledger_io::{Sink, write_all};
@@ -326,7 +327,7 @@ fn accepted_line(
     requires settled { post.now.world.kept.book.sealed ≡ post.now.world.kept.book.size }
     ensures follows { IfOk result (λ line. (h : History) → Serves post.now.world.kept.book h
         → Follows h notary.old.entries auditor.old → Follows h notary.old.entries auditor.new) }
-    ensures line { IfOk result (λ line. (h : History) (n : ℕ) → item.now.job ≡ jobs.Prove n
+    ensures line { IfOk result (λ line. (h : History) (n : ℕ) → item.now.job ≡ jobs.Ask (queries.Prove n)
         → Serves post.now.world.kept.book h → Pegged h notary.old.entries
         → Follows h notary.old.entries auditor.old → notary.new.faults ≡ 0 → prove_refusal h n ≡ None
         → line ≡ Some (reply_text 0 1 (proof_reply (shown_of h notary.old.entries n)))) }
@@ -334,7 +335,7 @@ fn accepted_line(
     ensures faults { notary.new.faults ≡ 0 → notary.old.faults ≡ 0 }
 {
     match &item.job {
-        Job::Prove { n } => auditor.accepted_line(alloc, post.book(), notary, *n),
+        Job::Ask(Query::Prove { n }) => auditor.accepted_line(alloc, post.book(), notary, *n),
         _ => Ok(None),
     }
 }

@@ -51,7 +51,7 @@ fn anchor(book: &mut Book, salt: Digest) -> Result<Outcome, NoMemory> {
         salt,
     };
     match book.apply(&Job::Anchor)? {
-        Outcome::Reading(_) => Ok(Outcome::Placed(book.place_time(&stamp)?)),
+        Outcome::StampWanted => Ok(Outcome::Placed(book.place_time(&stamp)?)),
         outcome => Ok(outcome),
     }
 }

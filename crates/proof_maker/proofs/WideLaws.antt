@@ -22,7 +22,7 @@ use Rattle.ledger_model.specs.Outcomes.{with_waiting, after_judgement, with_job}
 use Rattle.ledger_model.specs.Rules.{closes_before, closes_after, judged_at, settled_history, after_job}
 use Rattle.ledger_model.specs.Step.{Step}
 use Rattle.ledger_model.specs.declared.job.Job.{Job}
-use Rattle.ledger_model.specs.declared.job.Job.TheVariants.{Refused, Append, NewMember, Anchor, Occult, OccultClue, Purge, Get, Prove, Extend, Clue, Head}
+use Rattle.ledger_model.specs.declared.job.Job.TheVariants.{Refused, Append, NewMember, Anchor, Occult, OccultClue, Purge, Ask}
 use Rattle.ledger_model.proofs.AcceptedLaws.{stamp_few}
 use Rattle.ledger_model.proofs.FitLaws.{size_few}
 use Rattle.ledger_model.proofs.KeepLaws.{journals_close, journals_wider}
@@ -100,11 +100,7 @@ module _ (h : History) (wide : HasWideTimes h) where
       placed (own_refusal real_limits h (OccultClue clue count given)) (clue_occult_journal (size h) clue count given) (λ none time. absurd (let no : ⊥ = cc time in no))
   job_wide making step (Purge p told given) few changes =
       placed (own_refusal real_limits h (Purge p told given)) (purge_journal h p given) (λ none time. absurd (let no : ⊥ = cc time in no))
-  job_wide making step (Get n) few changes = unplaced (own_refusal real_limits h (Get n))
-  job_wide making step (Prove n) few changes = unplaced (own_refusal real_limits h (Prove n))
-  job_wide making step (Extend which m) few changes = unplaced (own_refusal real_limits h (Extend which m))
-  job_wide making step (Clue clue) few changes = unplaced (own_refusal real_limits h (Clue clue))
-  job_wide making step Head few changes = unplaced (own_refusal real_limits h Head)
+  job_wide making step (Ask query) few changes = unplaced (own_refusal real_limits h (Ask query))
 
 pub wide_after : (making : Option Making) (h : History) (step : Step) (job : Job) → IsLawful (judged_at h job) → HasWideTimes h → ChangesBy (judged_at h job) making step job → HasWideTimes (after_job h step job)
 unfolding after_job

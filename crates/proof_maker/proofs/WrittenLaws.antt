@@ -25,7 +25,7 @@ use Rattle.ledger_model.specs.Appends.{append_journal, member_journal, occult_jo
 use Rattle.ledger_model.specs.Getting.{reply_unless}
 use Rattle.ledger_model.specs.History as model
 use Rattle.ledger_model.specs.History.{History, journals, id, close}
-use Rattle.ledger_model.specs.Judgements.{own_refusal}
+use Rattle.ledger_model.specs.Judgements.{ask_judgements, own_refusal}
 use Rattle.member_book.specs.Erasures.{first_refusal}
 use Rattle.ledger_model.specs.Lawful.{IsLawful}
 use Rattle.ledger_model.specs.Limits.{real_limits}
@@ -40,8 +40,9 @@ use Rattle.ledger_model.specs.Step.{Step}
 use Rattle.ledger_model.specs.Took.{notary_after, Took, TookAll}
 use Rattle.ledger_model.specs.Texts.{told_mark, proof_reply, extension_reply, told_reply, answer_for, answer_to}
 use Rattle.ledger_model.specs.declared.job.Job.{Job}
-use Rattle.ledger_model.specs.declared.job.Job.TheVariants.{Refused, Append, NewMember, Anchor, Occult, OccultClue, Purge, Get, Prove, Extend, Clue, Head}
+use Rattle.ledger_model.specs.declared.job.Job.TheVariants.{Refused, Append, NewMember, Anchor, Occult, OccultClue, Purge, Ask}
 use Rattle.ledger_model.specs.declared.outcome.Outcome.TheVariants.{Reading}
+use Rattle.ledger_model.specs.declared.outcome.Query.{Query}
 use Rattle.ledger_model.specs.declared.outcome.Query.TheVariants as query
 use Rattle.ledger_model.proofs.FitLaws.{size_few}
 use Rattle.ledger_model.proofs.GetLaws.{get_told}
@@ -162,6 +163,15 @@ list_good g step m list =
     ] in
     elim step.failed as (λ v. IsGood g step.after (cond v (reply.Refused NotaryFault) (reply_unless (size_refusal (length step.after) m) told))) [ true ↦ tt | false ↦ by (size_refusal (length step.after) m) refl ]
 
+-- what is told to a job that asks
+asked_good : (g : History) (step : Step) (q : Query) → IsLawful g → HasWideTimes g → Pegged g step.after → IsGoodAnswer g step.after (answer_for g step (judged_outcome (first_refusal (ask_judgements g q)) (Reading q)))
+asked_good g step (query.Get n) lawful wide pegged = get_told (IsGood g step.after) g n (λ why. tt) (λ header content who. tt) (λ header who. tt)
+asked_good g step (query.Prove n) lawful wide pegged = prove_good g step n lawful wide pegged (prove_refusal g n) refl
+asked_good g step (query.Extend Ledger m) lawful wide pegged = extend_good g step m lawful (extend_refusal g m) refl
+asked_good g step (query.Extend Notary m) lawful wide pegged = list_good g step m pegged.list
+asked_good g step (query.Clue clue) lawful wide pegged = tt
+asked_good g step query.Head lawful wide pegged = head_good g step.after step
+
 pub good_answer : (making : Option Making) (h : History) (step : Step) (job : Job) → IsLawful h → HasWideTimes h → Pegged h step.before → ChangesBy (judged_at h job) making step job → IsGoodAnswer (judged_at h job) step.after (answer_to h step job)
 unfolding answer_to outcome
 good_answer making h step (Refused refusal) lawful wide pegged changes = tt
@@ -175,15 +185,10 @@ good_answer making h step (OccultClue clue count given) lawful wide pegged chang
     placed_good (close h) step.after step (own_refusal real_limits (close h) (OccultClue clue count given)) (model.size (close h)) (clue_occult_journal (model.size (close h)) clue count given)
 good_answer making h step (Purge p told given) lawful wide pegged changes =
     placed_good (close h) step.after step (own_refusal real_limits (close h) (Purge p told given)) (model.size (close h)) (purge_journal (close h) p given)
-good_answer making h step (Get n) lawful wide pegged changes = get_told (IsGood (close h) step.after) (close h) n (λ why. tt) (λ header content who. tt) (λ header who. tt)
-good_answer making h step (Prove n) lawful wide pegged changes =
+good_answer making h step (Ask query) lawful wide pegged changes =
     let g = close h in
     let p = subst (Pegged g) (sym changes) (pegged_close h step.before (some_journal (journals h) lawful.journals_are) pegged) in
-    prove_good g step n (close_lawful h lawful) (wide_close h wide) p (prove_refusal g n) refl
-good_answer making h step (Extend Ledger m) lawful wide pegged changes = extend_good (close h) step m (close_lawful h lawful) (extend_refusal (close h) m) refl
-good_answer making h step (Extend Notary m) lawful wide pegged changes = list_good (close h) step m (subst IsList (sym changes) pegged.list)
-good_answer making h step (Clue clue) lawful wide pegged changes = tt
-good_answer making h step Head lawful wide pegged changes = head_good (close h) step.after step
+    asked_good g step query (close_lawful h lawful) (wide_close h wide) p
 
 -- ---- steps and windows
 

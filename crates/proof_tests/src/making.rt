@@ -156,7 +156,7 @@ fn place_anchor(alloc: Global, book: &mut Book, notary: &mut MemNotary) -> Resul
 {
     let stamp = notary.stamp(alloc, &book.peg())?;
     match book.apply(&Job::Anchor)? {
-        Outcome::Reading(_) => book.place_time(&stamp)?,
+        Outcome::StampWanted => book.place_time(&stamp)?,
         _ => return Err("an anchor was refused".into()),
     };
     book.seal();

@@ -9,5 +9,4 @@ pub mod Separate
 pub mod Fitting
 pub mod WordLaws
 pub mod ReceiptLaws
-pub mod SpokenLaws
 pub mod LaneLaws

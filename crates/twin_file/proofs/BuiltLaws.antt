@@ -8,9 +8,9 @@ use Rattle.block_file.proofs.VeilLaws.{veiled_shut}
 use Rattle.ledger_disk.specs.Disk.{State}
 use Rattle.twin_file.specs.Calls.{IsBegun}
 use Rattle.block_file.specs.Head.{front_of}
-use Rattle.block_file.specs.FileView.{gate_of}
+use Rattle.block_file.specs.FileView.{gate_of, HasTail}
 use Rattle.twin_file.proofs.HeadLaws.{tail_size}
-use Rattle.twin_file.specs.Places.{HasTail, IsBuilt}
+use Rattle.twin_file.specs.Places.{IsBuilt}
 
 -- a file that was begun
 pub begun : (tells : Bool) (generation : ℕ) (base : List ℕ) (s : State) (told : Option ℕ) (made : Result BlockFile FileErr) → OnOk made (IsTrue tells → s.seen ≡ whole_file (front_of 0 generation base) [])

@@ -168,3 +168,13 @@ same_passed old new same quiet in_a taken passed image left =
 
 pub after_same : (old mid new : State) → mid ≡ old → KeepsPassed mid new → KeepsPassed old new
 after_same old mid new same keeps = subst (λ (s : State). KeepsPassed s new) same keeps
+
+-- what was there is a front of itself
+pub whole_front : (file image : List ℕ) → image ≡ file → image ≡ take (length image) file
+whole_front file image is = is ∙ sym (ap (λ (l : List ℕ). take (length l) file) is ∙ take_all (length file) file (omega arith))
+
+pub same_front : (old new : State) → new ≡ old → LeavesFront old new
+same_front old new same quiet image left = whole_front old.seen image (settled_image old.seen image (subst (λ (s : State). MayLeave s image) (same ∙ quiet) left))
+
+pub after_front : (old mid new : State) → mid ≡ old → LeavesFront mid new → LeavesFront old new
+after_front old mid new same leaves = subst (λ (s : State). LeavesFront s new) same leaves

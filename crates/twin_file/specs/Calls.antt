@@ -2,12 +2,12 @@
 use Rattle.std.specs.Prelude.{◌≡◌, ℕ, ◌+◌, Bool, not, List, [], ◌∷◌, ◌++◌, drop, length, IsTrue, Option, Some, None, IsSomeAnd, Result}
 use Rattle.block_file.specs.File.{open_blocks, whole_file}
 use Rattle.block_file.specs.Head.{CountsTwo, CountsTwoAlone, front_of}
-use Rattle.block_file.specs.FileView.{gate_of, base_len_of}
+use Rattle.block_file.specs.FileView.{gate_of, base_len_of, HasTail}
 use Rattle.block_file.specs.declared.file.BlockFile.{BlockFile}
 use Rattle.block_file.specs.declared.failure.FileErr.{FileErr}
 use Rattle.ledger_disk.specs.Disk.{DiskState, State, KeepsLength, settled_state}
 use Rattle.twin_file.specs.Images.{AllOpenTo, AllOpenToEither, AllShut, IsCopied, IsCopying, IsQuiet, KeepsPassed, StaysOpen}
-use Rattle.twin_file.specs.Places.{HasCopy, HasTail, IsBuiltCopy, IsLonger}
+use Rattle.twin_file.specs.Places.{HasCopy, IsBuiltCopy, IsLonger}
 use Rattle.twin_file.specs.Twin.{open_of, other_of, next_generation}
 use Rattle.twin_file.specs.Which.{in_a_of, generation_in, format_in, file_of, copy_of}
 use Rattle.twin_file.specs.declared.twin.Twin.{Twin}

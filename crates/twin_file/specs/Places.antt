@@ -2,11 +2,7 @@
 use Rattle.std.specs.Prelude.{◌≡◌, ℕ, ◌+◌, ◌≤◌, List, [], ◌∷◌, ◌++◌, length, take, Option, IsSomeAnd}
 use Rattle.block_file.specs.File.{whole_file, tail_of}
 use Rattle.block_file.specs.declared.file.BlockFile.{BlockFile}
-use Rattle.block_file.specs.FileView.{gate_of}
-
--- the length that is told reaches behind the file's tail gate
-abbrev pub HasTail : Option ℕ → BlockFile → Type 0
-HasTail told file = IsSomeAnd told (λ n. gate_of file + 1 ≤ n)
+use Rattle.block_file.specs.FileView.{gate_of, HasTail}
 
 -- a copy was begun, and its disk reads as the calls left it
 abbrev pub HasCopy : Option ℕ → Option BlockFile → Type 0

@@ -7,4 +7,5 @@ mod parts;
 mod picking;
 mod twin;
 
+pub use parts::clear;
 pub use twin::Twin;

@@ -3,12 +3,12 @@
 ghost use Rattle.std.specs.Prelude.{◌≡◌, ◌≢◌, ◌⊎◌, ◌+◌, ◌≤◌, [], ◌∷◌, ℕ, Bool, List, None, Some, true, IsSome, option_map, length, take, drop, IsTrue, IfSome, IsSomeAnd, IfOk, IfErr, OnOk, OnErr};
 ghost use Rattle.block_file.specs.File.{IsSettled, whole_file};
 ghost use Rattle.block_file.specs.Head.{Counts, CountsTwoAlone, IsResumeErr, front_of, number_at};
-ghost use Rattle.block_file.specs.FileView.{gate_of, base_len_of};
+ghost use Rattle.block_file.specs.FileView.{gate_of, base_len_of, HasTail};
 ghost use Rattle.ledger_disk.specs.Disk.{MayLeave, settled_state, KeepsLength};
 ghost use Rattle.twin_file.specs.Calls.{AreRead, IsAtFirst, IsBegun, AddsPiece, IsHalfSwitched, IsSwitched, KeepsOpen, SparesOpen, StaysCopying, TakesOver};
 ghost use Rattle.twin_file.specs.Images.{AreShut, IsCopying, IsMadeOrShut, IsQuiet, LeavesFront};
 ghost use Rattle.twin_file.specs.Picking.{IsReopened, view};
-ghost use Rattle.twin_file.specs.Places.{HasCopy, HasTail, IsBuilt, IsBuiltCopy};
+ghost use Rattle.twin_file.specs.Places.{HasCopy, IsBuilt, IsBuiltCopy};
 ghost use Rattle.twin_file.specs.Twin.{open_of, other_of, OpensTo, IsReopenErr, next_generation};
 ghost use Rattle.twin_file.specs.Which.{in_a_of, generation_in, format_in, file_of, copy_of, view_of, SameOpen};
 
@@ -206,7 +206,6 @@ impl Twin {
             (D.state a.old).bytes (D.state b.old).bytes (D.state a.new).bytes (D.state b.new).bytes) }
         ensures images_err { OnErr result (IsTrue D.tells → IsHalfSwitched (in_a_of self.old)
             (D.state a.old).bytes (D.state b.old).bytes (D.state a.new).bytes (D.state b.new).bytes) }
-
         ensures which { OnOk result (TakesOver self.old self.new) }
         ensures built { OnOk result (IsTrue D.tells
             → (generation : ℕ) (base : List ℕ) (blocks : List (List ℕ))

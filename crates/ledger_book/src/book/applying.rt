@@ -20,13 +20,13 @@ use crate::headers::{
 };
 use journal_record::{Approval, Stamp};
 use ledger_bytes::{Bytes, Digest, NoMemory};
-use ledger_model::{Job, Outcome, PlacedJournal, Query};
+use ledger_model::{Job, Outcome, PlacedJournal};
 
 impl Book {
     /// Judges a job, and places its journal in the open block where it is accepted. A refusal changes nothing; neither does
     /// a request that repeats a kept record's, which is told that record, nor an `Err`. The open block isn't ended by this:
     /// the caller ends it where it is full, before a job that asks for that, and behind one whose journal is a block of its
-    /// own. An anchor that is accepted asks for a stamp of the notary, with which [`Book::place_time`] places its journal.
+    /// own. An anchor that is accepted wants a stamp of the notary, with which [`Book::place_time`] places its journal.
     pub fn apply(&mut self, job: &Job) -> Result<Outcome, NoMemory>
         requires fits { fits_job job.now ≡ true }
         ensures ok { IfOk result (λ outcome. (h : History) → Serves self.old h
@@ -56,7 +56,7 @@ impl Book {
             Job::NewMember { number, key, by } => self.apply_member(*number, key, by),
             Job::Anchor => match self.hard_refusal() {
                 Some(refusal) => Ok(Outcome::Refused(refusal)),
-                None => Ok(Outcome::Reading(Query::Stamp)),
+                None => Ok(Outcome::StampWanted),
             },
             Job::Occult {
                 target,
@@ -67,20 +67,10 @@ impl Book {
                 self.apply_clue_occult(clue, *count, given.as_slice())
             }
             Job::Purge { point, root, given } => self.apply_purge(*point, root, given.as_slice()),
-            Job::Get { n } => Ok(Outcome::Reading(Query::Get { n: *n })),
-            Job::Prove { n } => match self.prove_refusal(*n) {
+            Job::Ask(query) => match self.ask_refusal(query) {
                 Some(refusal) => Ok(Outcome::Refused(refusal)),
-                None => Ok(Outcome::Reading(Query::Prove { n: *n })),
+                None => Ok(Outcome::Reading(*query)),
             },
-            Job::Extend { which, m } => match self.extend_refusal(*which, *m) {
-                Some(refusal) => Ok(Outcome::Refused(refusal)),
-                None => Ok(Outcome::Reading(Query::Extend {
-                    which: *which,
-                    m: *m,
-                })),
-            },
-            Job::Clue { clue } => Ok(Outcome::Reading(Query::Clue { clue: *clue })),
-            Job::Head => Ok(Outcome::Reading(Query::Head)),
         }
     }
 

@@ -1,4 +1,4 @@
-//! Why a job that asks for a proof is refused.
+//! Why a job that asks for something is refused.
 
 ghost use Rattle.std.specs.Prelude.{◌≡◌, ◌⊎◌, ◌<◌, ◌≤◌, IfSome, IfNone};
 ghost use Rattle.ledger_bytes.specs.declared.refusal.Refusal.TheVariants.{NoJournal, Purged, BadSize};
@@ -11,6 +11,7 @@ ghost use Rattle.ledger_book.specs.Books.{Serves};
 
 use super::Book;
 use ledger_bytes::Refusal;
+use ledger_model::Query;
 use script_lines::Which;
 
 impl Book {
@@ -29,15 +30,18 @@ impl Book {
         }
     }
 
-    /// Why there is no proof that a tree goes on from its first `m`, as far as the ledger alone tells it: nothing is known
-    /// of the notary's list.
-    pub(super) fn extend_refusal(&self, which: Which, m: u64) -> Option<Refusal>
+    /// Why what is asked isn't told, as far as the ledger alone tells it: nothing is known of the notary's list.
+    pub(super) fn ask_refusal(&self, query: &Query) -> Option<Refusal>
         ensures { (limits : Limits) (h : History) → Serves self.now h
-            → result ≡ own_refusal limits h (asked.Extend which m) }
+            → result ≡ own_refusal limits h (asked.Ask query.now) }
     {
-        match which {
-            Which::Ledger => self.ledger_refusal(m),
-            Which::Notary => None,
+        match query {
+            Query::Prove { n } => self.prove_refusal(*n),
+            Query::Extend { which, m } => match which {
+                Which::Ledger => self.ledger_refusal(*m),
+                Which::Notary => None,
+            },
+            Query::Get { .. } | Query::Clue { .. } | Query::Head => None,
         }
     }
 

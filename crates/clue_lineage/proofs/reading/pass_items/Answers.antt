@@ -1,5 +1,5 @@
 use Rattle.std.proofs.Common.{rules, ◌≡◌, ◌+◌, length, ap, subst, arith}
-use Rattle.clue_lineage.specs.Lineages.{Item}
+use Rattle.clue_lineage.specs.Lineages.{LineageItem}
 use Rattle.clue_lineage.specs.Reading.{behind}
 use Rattle.clue_lineage.proofs.Passing.{Passed, none_passed, one_passed, one_broken, all_passed}
 use Rattle.clue_lineage.proofs.reading.pass_items.Goals as goal
@@ -9,7 +9,7 @@ loop-init c = record { passed = none_passed c.args.count c.args.reader.now; near
 
 pub loop-preserved : goal.loop-preserved
 loop-preserved c =
-    let path = ap (λ (i : Item). length i.path) c.item.view_is in
+    let path = ap (λ (i : LineageItem). length i.path) c.item.view_is in
     let place : behind c.loop.at c.in_ok-item.item ≡ c.loop.at + (175 + length c.item.inside.path.now) = omega (arith, path) in
     record {
       passed =

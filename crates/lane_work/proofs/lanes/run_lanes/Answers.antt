@@ -16,13 +16,13 @@ returns-in_err-done-clause-err g c = on_err c.from_residual-in_err-done.result (
 pub returns-in-Going : goal.returns-in-Going
 returns-in-Going g c = record {
   ok =
-      ran_all _ c.drive.result c.args.first.now c.args.window.items c.args.taker.now c.drive.new.taker c.in-Going.is
-      (c.drive.ensures c.args.first.now c.args.window.items c.in_ok-intake.ensures.window (c.len-count.ensures ∙ c.args.window.ok.0));
+      ran_all _ c.run_and_close.result c.args.first.now c.args.window.items c.args.taker.now c.run_and_close.new.taker c.in-Going.is
+      (c.run_and_close.ensures c.args.first.now c.args.window.items c.in_ok-intake.ensures.window (c.len-count.ensures ∙ c.args.window.ok.0));
   err = tt;
 }
 
-pub set_up-requires-clause-low : goal.set_up-requires-clause-low
-set_up-requires-clause-low g c = all_low c.args.window.items
+pub divide_window-requires-clause-low : goal.divide_window-requires-clause-low
+divide_window-requires-clause-low g c = all_low c.args.window.items
 
 -- lines of one lane
 

@@ -51,14 +51,14 @@ module _ (tells : Bool) (told : IsTrue tells) (twin : Twin) (o : Opened) (a b a_
     pairs : (a2 b2 : State) → StandsCarrying (in_a_of o.twin) a1 b1 a2 b2 → PairStandsStill a b a2 b2
     pairs = carrying_pairs tells told (in_a_of twin) o.twin a b base here.taken (format_in twin) named bytes k known.0 known.1 a1 b1 refl known.2 mended (edition told)
 
-pub returns-in-Err-clause-images : goal.returns-in-Err-clause-images
-returns-in-Err-clause-images g c told h p image_a image_b la lb =
+pub returns-in_err-base-clause-images : goal.returns-in_err-base-clause-images
+returns-in_err-base-clause-images g c told h p image_a image_b la lb =
     let same = c.base_to_carry.ensures.bytes told in
     let here = c.requires.here told in
     same_pair h (g.D.Disk.state c.args.a.now).bytes (g.D.Disk.state c.args.b.now).bytes _ _ same.0 same.1 here.quiet_a here.quiet_b p image_a image_b la lb
 
-pub returns-in-Err-read_pair-clause-images : goal.returns-in-Err-read_pair-clause-images
-returns-in-Err-read_pair-clause-images g c told h p image_a image_b la lb =
+pub returns-in_err-opened-clause-images : goal.returns-in_err-opened-clause-images
+returns-in_err-opened-clause-images g c told h p image_a image_b la lb =
     let same = both _ _ _ _ _ _ (c.base_to_carry.ensures.bytes told) (c.read_pair.ensures.state told) in
     let here = c.requires.here told in
     same_pair h (g.D.Disk.state c.args.a.now).bytes (g.D.Disk.state c.args.b.now).bytes _ _ same.0 same.1 here.quiet_a here.quiet_b p image_a image_b la lb
@@ -69,21 +69,21 @@ returns-in_err-purge-clause-images g c told h p image_a image_b la lb =
     let here = c.requires.here told in
     same_pair h (g.D.Disk.state c.args.a.now).bytes (g.D.Disk.state c.args.b.now).bytes _ _ same.0 same.1 here.quiet_a here.quiet_b p image_a image_b la lb
 
-pub returns-in-Err-finish_open-clause-images : goal.returns-in-Err-finish_open-clause-images
-returns-in-Err-finish_open-clause-images g c told =
+pub returns-in_err-finish_open-clause-images : goal.returns-in_err-finish_open-clause-images
+returns-in_err-finish_open-clause-images g c told =
     let same = both _ _ _ _ _ _ (c.base_to_carry.ensures.bytes told) (c.read_pair.ensures.state told) in
     from_start (λ a b. PairStandsStill a b (g.D.Disk.state c.finish_open.new.a).bytes (g.D.Disk.state c.finish_open.new.b).bytes) _ _ _ _ same.0 same.1 (c.finish_open.ensures.images told)
 
-pub returns-in-Err-finish_open-clause-clean : goal.returns-in-Err-finish_open-clause-clean
-returns-in-Err-finish_open-clause-clean g c told =
+pub returns-in_err-finish_open-clause-clean : goal.returns-in_err-finish_open-clause-clean
+returns-in_err-finish_open-clause-clean g c told =
     let same = both _ _ _ _ _ _ (c.base_to_carry.ensures.bytes told) (c.read_pair.ensures.state told) in
     from_start (λ a b. IsCleanStill a b (g.D.Disk.state c.finish_open.new.a).bytes (g.D.Disk.state c.finish_open.new.b).bytes) _ _ _ _ same.0 same.1 (c.finish_open.ensures.clean told)
 
-pub returns-in-Ok-carry-clause-ok : goal.returns-in-Ok-carry-clause-ok
-returns-in-Ok-carry-clause-ok g c =
+pub returns-clause-ok : goal.returns-clause-ok
+returns-clause-ok g c =
     let o = c.finish_open.new.opened in
-    let all = c.in-Ok-finish_open.ensures.ok in
-    let gate = c.in-Ok-carry.ensures.gate in (
+    let all = c.in_ok-finish_open.ensures.ok in
+    let gate = c.in_ok-carry.ensures.gate in (
       all.0,
       all.1,
       subst (λ (n : ℕ). Remembers (known_from o.book o.places.list n) all.0 all.1) (sym gate) all.2,
@@ -93,33 +93,33 @@ returns-in-Ok-carry-clause-ok g c =
         b_then = (g.D.Disk.state c.finish_open.new.b).bytes;
         mended =
             subst (λ (n : ℕ). IsMended (in_a_of o.twin) (known_from o.book o.places.list n) all.0 all.1 (g.D.Disk.state c.args.a.now).bytes (g.D.Disk.state c.args.b.now).bytes (g.D.Disk.state c.finish_open.new.a).bytes (g.D.Disk.state c.finish_open.new.b).bytes) (sym gate)
-            (mended g.D.Disk.tells told c.args.twin c.finish_open.new.opened (g.D.Disk.state c.args.a.now).bytes (g.D.Disk.state c.args.b.now).bytes _ _ c.in-Ok.base (c.requires.here told) (both _ _ _ _ _ _ (c.base_to_carry.ensures.bytes told) (c.read_pair.ensures.state told)) c.in-Ok.ensures.base _ _ c.in-Ok-finish_open.ensures.ok c.in-Ok-finish_open.ensures.edition);
-        left = c.in-Ok-carry.ensures.ok told (may g.D.Disk.tells told c.args.twin c.finish_open.new.opened (g.D.Disk.state c.args.a.now).bytes (g.D.Disk.state c.args.b.now).bytes _ _ c.in-Ok.base (c.requires.here told) (both _ _ _ _ _ _ (c.base_to_carry.ensures.bytes told) (c.read_pair.ensures.state told)) c.in-Ok.ensures.base _ _ c.in-Ok-finish_open.ensures.ok c.in-Ok-finish_open.ensures.edition);
+            (mended g.D.Disk.tells told c.args.twin c.finish_open.new.opened (g.D.Disk.state c.args.a.now).bytes (g.D.Disk.state c.args.b.now).bytes _ _ c.in_ok-base.base (c.requires.here told) (both _ _ _ _ _ _ (c.base_to_carry.ensures.bytes told) (c.read_pair.ensures.state told)) c.in_ok-base.ensures.base _ _ c.in_ok-finish_open.ensures.ok c.in_ok-finish_open.ensures.edition);
+        left = c.in_ok-carry.ensures.ok told (may g.D.Disk.tells told c.args.twin c.finish_open.new.opened (g.D.Disk.state c.args.a.now).bytes (g.D.Disk.state c.args.b.now).bytes _ _ c.in_ok-base.base (c.requires.here told) (both _ _ _ _ _ _ (c.base_to_carry.ensures.bytes told) (c.read_pair.ensures.state told)) c.in_ok-base.ensures.base _ _ c.in_ok-finish_open.ensures.ok c.in_ok-finish_open.ensures.edition);
       },
     )
 
-pub returns-in-Ok-carry-clause-edition : goal.returns-in-Ok-carry-clause-edition
-returns-in-Ok-carry-clause-edition g c told =
-    c.in-Ok-carry.ensures.edition told (may g.D.Disk.tells told c.args.twin c.finish_open.new.opened (g.D.Disk.state c.args.a.now).bytes (g.D.Disk.state c.args.b.now).bytes _ _ c.in-Ok.base (c.requires.here told) (both _ _ _ _ _ _ (c.base_to_carry.ensures.bytes told) (c.read_pair.ensures.state told)) c.in-Ok.ensures.base _ _ c.in-Ok-finish_open.ensures.ok c.in-Ok-finish_open.ensures.edition)
+pub returns-clause-edition : goal.returns-clause-edition
+returns-clause-edition g c told =
+    c.in_ok-carry.ensures.edition told (may g.D.Disk.tells told c.args.twin c.finish_open.new.opened (g.D.Disk.state c.args.a.now).bytes (g.D.Disk.state c.args.b.now).bytes _ _ c.in_ok-base.base (c.requires.here told) (both _ _ _ _ _ _ (c.base_to_carry.ensures.bytes told) (c.read_pair.ensures.state told)) c.in_ok-base.ensures.base _ _ c.in_ok-finish_open.ensures.ok c.in_ok-finish_open.ensures.edition)
 
-pub returns-in-Ok-carry-clause-images : goal.returns-in-Ok-carry-clause-images
-returns-in-Ok-carry-clause-images g c told =
-    pairs g.D.Disk.tells told c.args.twin c.finish_open.new.opened (g.D.Disk.state c.args.a.now).bytes (g.D.Disk.state c.args.b.now).bytes _ _ c.in-Ok.base (c.requires.here told) (both _ _ _ _ _ _ (c.base_to_carry.ensures.bytes told) (c.read_pair.ensures.state told)) c.in-Ok.ensures.base _ _ c.in-Ok-finish_open.ensures.ok c.in-Ok-finish_open.ensures.edition _ _
-    (c.carry.ensures.images told (may g.D.Disk.tells told c.args.twin c.finish_open.new.opened (g.D.Disk.state c.args.a.now).bytes (g.D.Disk.state c.args.b.now).bytes _ _ c.in-Ok.base (c.requires.here told) (both _ _ _ _ _ _ (c.base_to_carry.ensures.bytes told) (c.read_pair.ensures.state told)) c.in-Ok.ensures.base _ _ c.in-Ok-finish_open.ensures.ok c.in-Ok-finish_open.ensures.edition))
+pub returns-clause-images : goal.returns-clause-images
+returns-clause-images g c told =
+    pairs g.D.Disk.tells told c.args.twin c.finish_open.new.opened (g.D.Disk.state c.args.a.now).bytes (g.D.Disk.state c.args.b.now).bytes _ _ c.in_ok-base.base (c.requires.here told) (both _ _ _ _ _ _ (c.base_to_carry.ensures.bytes told) (c.read_pair.ensures.state told)) c.in_ok-base.ensures.base _ _ c.in_ok-finish_open.ensures.ok c.in_ok-finish_open.ensures.edition _ _
+    (c.carry.ensures.images told (may g.D.Disk.tells told c.args.twin c.finish_open.new.opened (g.D.Disk.state c.args.a.now).bytes (g.D.Disk.state c.args.b.now).bytes _ _ c.in_ok-base.base (c.requires.here told) (both _ _ _ _ _ _ (c.base_to_carry.ensures.bytes told) (c.read_pair.ensures.state told)) c.in_ok-base.ensures.base _ _ c.in_ok-finish_open.ensures.ok c.in_ok-finish_open.ensures.edition))
 
-pub returns-in-Err-carry-clause-images : goal.returns-in-Err-carry-clause-images
-returns-in-Err-carry-clause-images g c told =
-    pairs g.D.Disk.tells told c.args.twin c.finish_open.new.opened (g.D.Disk.state c.args.a.now).bytes (g.D.Disk.state c.args.b.now).bytes _ _ c.in-Ok.base (c.requires.here told) (both _ _ _ _ _ _ (c.base_to_carry.ensures.bytes told) (c.read_pair.ensures.state told)) c.in-Ok.ensures.base _ _ c.in-Ok-finish_open.ensures.ok c.in-Ok-finish_open.ensures.edition _ _
-    (c.carry.ensures.images told (may g.D.Disk.tells told c.args.twin c.finish_open.new.opened (g.D.Disk.state c.args.a.now).bytes (g.D.Disk.state c.args.b.now).bytes _ _ c.in-Ok.base (c.requires.here told) (both _ _ _ _ _ _ (c.base_to_carry.ensures.bytes told) (c.read_pair.ensures.state told)) c.in-Ok.ensures.base _ _ c.in-Ok-finish_open.ensures.ok c.in-Ok-finish_open.ensures.edition))
+pub returns-in_err-carry-clause-images : goal.returns-in_err-carry-clause-images
+returns-in_err-carry-clause-images g c told =
+    pairs g.D.Disk.tells told c.args.twin c.finish_open.new.opened (g.D.Disk.state c.args.a.now).bytes (g.D.Disk.state c.args.b.now).bytes _ _ c.in_ok-base.base (c.requires.here told) (both _ _ _ _ _ _ (c.base_to_carry.ensures.bytes told) (c.read_pair.ensures.state told)) c.in_ok-base.ensures.base _ _ c.in_ok-finish_open.ensures.ok c.in_ok-finish_open.ensures.edition _ _
+    (c.carry.ensures.images told (may g.D.Disk.tells told c.args.twin c.finish_open.new.opened (g.D.Disk.state c.args.a.now).bytes (g.D.Disk.state c.args.b.now).bytes _ _ c.in_ok-base.base (c.requires.here told) (both _ _ _ _ _ _ (c.base_to_carry.ensures.bytes told) (c.read_pair.ensures.state told)) c.in_ok-base.ensures.base _ _ c.in_ok-finish_open.ensures.ok c.in_ok-finish_open.ensures.edition))
 
-pub returns-in-Ok-carry-clause-clean : goal.returns-in-Ok-carry-clause-clean
-returns-in-Ok-carry-clause-clean g c told qa qb h clean =
+pub returns-clause-clean : goal.returns-clause-clean
+returns-clause-clean g c told qa qb h clean =
     let same = both _ _ _ _ _ _ (c.base_to_carry.ensures.bytes told) (c.read_pair.ensures.state told) in
     still_clean _ _ _ _ _ _ (g.D.Disk.state c.carry.new.a) (g.D.Disk.state c.carry.new.b) same (c.finish_open.ensures.clean told)
-    (c.carry.ensures.idle (none g.D.Disk.tells told c.args.twin c.finish_open.new.opened (g.D.Disk.state c.args.a.now).bytes (g.D.Disk.state c.args.b.now).bytes _ _ c.in-Ok.base (c.requires.here told) (both _ _ _ _ _ _ (c.base_to_carry.ensures.bytes told) (c.read_pair.ensures.state told)) c.in-Ok.ensures.base h clean)) qa qb h clean
+    (c.carry.ensures.idle (none g.D.Disk.tells told c.args.twin c.finish_open.new.opened (g.D.Disk.state c.args.a.now).bytes (g.D.Disk.state c.args.b.now).bytes _ _ c.in_ok-base.base (c.requires.here told) (both _ _ _ _ _ _ (c.base_to_carry.ensures.bytes told) (c.read_pair.ensures.state told)) c.in_ok-base.ensures.base h clean)) qa qb h clean
 
-pub returns-in-Err-carry-clause-clean : goal.returns-in-Err-carry-clause-clean
-returns-in-Err-carry-clause-clean g c told qa qb h clean =
+pub returns-in_err-carry-clause-clean : goal.returns-in_err-carry-clause-clean
+returns-in_err-carry-clause-clean g c told qa qb h clean =
     let same = both _ _ _ _ _ _ (c.base_to_carry.ensures.bytes told) (c.read_pair.ensures.state told) in
     still_clean _ _ _ _ _ _ (g.D.Disk.state c.carry.new.a) (g.D.Disk.state c.carry.new.b) same (c.finish_open.ensures.clean told)
-    (c.carry.ensures.idle (none g.D.Disk.tells told c.args.twin c.finish_open.new.opened (g.D.Disk.state c.args.a.now).bytes (g.D.Disk.state c.args.b.now).bytes _ _ c.in-Ok.base (c.requires.here told) (both _ _ _ _ _ _ (c.base_to_carry.ensures.bytes told) (c.read_pair.ensures.state told)) c.in-Ok.ensures.base h clean)) qa qb h clean
+    (c.carry.ensures.idle (none g.D.Disk.tells told c.args.twin c.finish_open.new.opened (g.D.Disk.state c.args.a.now).bytes (g.D.Disk.state c.args.b.now).bytes _ _ c.in_ok-base.base (c.requires.here told) (both _ _ _ _ _ _ (c.base_to_carry.ensures.bytes told) (c.read_pair.ensures.state told)) c.in_ok-base.ensures.base h clean)) qa qb h clean

@@ -3,4 +3,4 @@ use Rattle.ledger_book.proofs.ApplyLaws.{asked_room}
 use Rattle.line_tests.proofs.books.anchor.Goals as goal
 
 pub place_time-requires-clause-room : goal.place_time-requires-clause-room
-place_time-requires-clause-room c = asked_room _ _ _ _ (c.in_ok-outcome.ensures.anchor refl) c.in-Reading.is c.in_ok-outcome.ensures.unchanged
+place_time-requires-clause-room c = asked_room _ _ _ (c.in_ok-outcome.ensures.anchor refl) c.in-StampWanted.is c.in_ok-outcome.ensures.unchanged

@@ -6,34 +6,34 @@ use Rattle.ledger_book.proofs.OpenLaws.{opens_gather}
 use Rattle.ledger_book.proofs.StandsLaws.{none_waits}
 use Rattle.ledger_book.proofs.ApplyLaws.{asked_room, on_ok_all}
 use Rattle.ledger_book.specs.Steps.{PlacesNothing, Applies, OpenGathers}
-use Rattle.ledger_model.specs.Rules.{closes_after}
+use Rattle.ledger_model.specs.Rules.{closes_before, closes_after}
 use Rattle.ledger_model.specs.Outcomes.{AsksFor}
 use Rattle.ledger_model.specs.Judgements.{own_refusal}
 use Rattle.ledger_model.specs.Limits.{real_limits}
 use Rattle.ledger_model.specs.Texts.{answer_for, told_reply}
 use Rattle.ledger_model.specs.declared.answer.Answer.TheVariants.{Reply, Receipt}
 use Rattle.ledger_model.specs.declared.job.Job.{Job}
-use Rattle.ledger_model.specs.declared.job.Job.TheVariants.{Prove, Extend, Head}
+use Rattle.ledger_model.specs.declared.job.Job.TheVariants.{Ask}
 use Rattle.ledger_model.specs.declared.outcome.Query.TheVariants as query
 use Rattle.batch_committer.specs.Attending.{step_in, Attended, JudgedBy, EndsAsking}
 use Rattle.batch_committer.specs.World.{CommitterState, Keeps, Holds, world, pair}
-use Rattle.batch_committer.proofs.Anchoring.{asked_anchor, asked_head, asked_prove, asked_extend, asked_accepted, anchor_asks, keeps_book, on_err_all, told_judged}
+use Rattle.batch_committer.proofs.Anchoring.{asked_accepted, anchor_wants, keeps_book, on_err_all, told_judged}
 use Rattle.batch_committer.proofs.Attends.{unstamped, unstamped_same, attends_other, ends_untouched}
-use Rattle.batch_committer.proofs.Judging.{real_applies, judged_same_kept, judged_placed, asks_closes, alone_first, order_at, on_ok_then, ungrown}
+use Rattle.batch_committer.proofs.Judging.{real_applies, judged_same_kept, judged_placed, alone_first, order_at, on_ok_then, ungrown}
 use Rattle.batch_committer.specs.contracts.taking.Taking.{the_view}
 use Rattle.batch_committer.proofs.ReadLaws.{holds_book}
 use Rattle.batch_committer.proofs.taking.Taking.judge.Goals as goal
 
 pub anchor-requires-clause-room : goal.anchor-requires-clause-room
 anchor-requires-clause-room g c =
-    let job = asked_anchor c.args.job.now c.in-Reading.query (subst (AsksFor c.args.job.now) c.in-Reading.is c.in_ok-refusal.ensures.asked) c.in-Stamp.is in
-    asked_room c.self.inside.opened.book c.apply.new.self _ c.in-Reading.query (c.in_ok-refusal.ensures.anchor job) c.in-Reading.is c.in_ok-refusal.ensures.unchanged
+    let job = subst (AsksFor c.args.job.now) c.in-StampWanted.is c.in_ok-refusal.ensures.asked in
+    asked_room c.self.inside.opened.book c.apply.new.self _ (c.in_ok-refusal.ensures.anchor job) c.in-StampWanted.is c.in_ok-refusal.ensures.unchanged
 
 pub anchor-requires-clause-settled : goal.anchor-requires-clause-settled
 anchor-requires-clause-settled g c = λ h s.
-    let asked = subst (AsksFor c.args.job.now) c.in-Reading.is c.in_ok-refusal.ensures.asked in
-    let same = c.in_ok-refusal.ensures.unchanged (subst PlacesNothing (sym c.in-Reading.is) tt) in
-    none_waits _ h (subst (λ b. Serves b h) same s).stands (sym (subst (λ (k : CommitterState). k.book.size ≡ k.book.sealed) (sym c.self.view_is) (c.requires.settled (asks_closes c.args.job.now c.in-Reading.query asked)).0))
+    let asked = subst (AsksFor c.args.job.now) c.in-StampWanted.is c.in_ok-refusal.ensures.asked in
+    let same = c.in_ok-refusal.ensures.unchanged (subst PlacesNothing (sym c.in-StampWanted.is) tt) in
+    none_waits _ h (subst (λ b. Serves b h) same s).stands (sym (subst (λ (k : CommitterState). k.book.size ≡ k.book.sealed) (sym c.self.view_is) (c.requires.settled (ap closes_before asked)).0))
 
 pub returns-in-Refused-clause-judged : goal.returns-in-Refused-clause-judged
 returns-in-Refused-clause-judged g c =
@@ -45,7 +45,7 @@ returns-in-Refused-clause-judged g c =
           let a = c.in_ok-refusal.ensures.ok h p.serves in
           record {
             judged = judged_same_kept _ _ h step c.args.job.now _ _ p a (subst PlacesNothing (sym c.in-Refused.is) tt) c.in_ok-refusal.ensures.unchanged ungrown (sym (ap (answer_for h step) c.in-Refused.is)) (unstamped n false lane index line);
-            attended = attends_other n h lane index line c.args.job.now (λ is none. let asks = anchor_asks _ h c.args.job.now _ _ (real_applies None c.self.inside.opened.book _ h c.args.job.now _ p.limits a) is none in let no : ⊥ = cc (asks, c.in-Refused.is) in no);
+            attended = attends_other n h lane index line c.args.job.now (λ is none. let asks = anchor_wants _ h c.args.job.now _ _ (real_applies None c.self.inside.opened.book _ h c.args.job.now _ p.limits a) is none in let no : ⊥ = cc (asks, c.in-Refused.is) in no);
           },
     )
 
@@ -59,7 +59,7 @@ returns-in-Again-clause-judged g c =
           let a = c.in_ok-refusal.ensures.ok h p.serves in
           record {
             judged = judged_same_kept _ _ h step c.args.job.now _ _ p a (subst PlacesNothing (sym c.in-Again.is) tt) c.in_ok-refusal.ensures.unchanged ungrown (sym (ap (answer_for h step) c.in-Again.is)) (unstamped n false lane index line);
-            attended = attends_other n h lane index line c.args.job.now (λ is none. let asks = anchor_asks _ h c.args.job.now _ _ (real_applies None c.self.inside.opened.book _ h c.args.job.now _ p.limits a) is none in let no : ⊥ = cc (asks, c.in-Again.is) in no);
+            attended = attends_other n h lane index line c.args.job.now (λ is none. let asks = anchor_wants _ h c.args.job.now _ _ (real_applies None c.self.inside.opened.book _ h c.args.job.now _ p.limits a) is none in let no : ⊥ = cc (asks, c.in-Again.is) in no);
           },
     )
 
@@ -79,16 +79,16 @@ returns-in_ok-gather_placed-in-Placed-clause-judged g c =
                 (subst (λ (b : books.Kept). b.limits ≡ c.self.inside.opened.book.limits) (sym e.book) c.apply.ensures.same.limits)
                 (subst (λ (b : books.Kept). b.floor ≡ c.self.inside.opened.book.floor) (sym e.book) c.apply.ensures.same.floor) c.in-Placed.is
                 e.gathered ungrown e.rest.file (ap (Receipt c.in-Placed.placed.jsn c.in-Placed.placed.leaf) (sym (unstamped n false lane index line)) ∙ sym (ap (answer_for h step) c.in-Placed.is)) (unstamped n false lane index line);
-            attended = attends_other n h lane index line c.args.job.now (λ is none. let asks = anchor_asks _ h c.args.job.now _ _ (real_applies None c.self.inside.opened.book _ h c.args.job.now _ p.limits a) is none in let no : ⊥ = cc (asks, c.in-Placed.is) in no);
+            attended = attends_other n h lane index line c.args.job.now (λ is none. let asks = anchor_wants _ h c.args.job.now _ _ (real_applies None c.self.inside.opened.book _ h c.args.job.now _ p.limits a) is none in let no : ⊥ = cc (asks, c.in-Placed.is) in no);
           },
     )
 
-pub returns-in-Stamp-clause-judged : goal.returns-in-Stamp-clause-judged
-returns-in-Stamp-clause-judged g c =
+pub returns-in-StampWanted-clause-judged : goal.returns-in-StampWanted-clause-judged
+returns-in-StampWanted-clause-judged g c =
     let n = g.N.Notary.state c.args.notary.now in
     let m = g.N.Notary.state c.anchor.new.notary in
-    let nothing : PlacesNothing c.in_ok-refusal.field-0 = subst PlacesNothing (sym c.in-Reading.is) tt in
-    let job = asked_anchor c.args.job.now c.in-Reading.query (subst (AsksFor c.args.job.now) c.in-Reading.is c.in_ok-refusal.ensures.asked) c.in-Stamp.is in
+    let nothing : PlacesNothing c.in_ok-refusal.field-0 = subst PlacesNothing (sym c.in-StampWanted.is) tt in
+    let job = subst (AsksFor c.args.job.now) c.in-StampWanted.is c.in_ok-refusal.ensures.asked in
     IfOk-weaker c.anchor.result _ _
     (λ answer x. (
       x.0,
@@ -99,10 +99,10 @@ returns-in-Stamp-clause-judged g c =
     ))
     c.anchor.ensures.judged
 
-pub returns-in-Stamp-clause-unasked : goal.returns-in-Stamp-clause-unasked
-returns-in-Stamp-clause-unasked g c =
-    let nothing : PlacesNothing c.in_ok-refusal.field-0 = subst PlacesNothing (sym c.in-Reading.is) tt in
-    let job = asked_anchor c.args.job.now c.in-Reading.query (subst (AsksFor c.args.job.now) c.in-Reading.is c.in_ok-refusal.ensures.asked) c.in-Stamp.is in
+pub returns-in-StampWanted-clause-unasked : goal.returns-in-StampWanted-clause-unasked
+returns-in-StampWanted-clause-unasked g c =
+    let nothing : PlacesNothing c.in_ok-refusal.field-0 = subst PlacesNothing (sym c.in-StampWanted.is) tt in
+    let job = subst (AsksFor c.args.job.now) c.in-StampWanted.is c.in_ok-refusal.ensures.asked in
     on_err_weaker c.anchor.result
     (λ x. subst (EndsAsking c.args.self.now (g.N.Notary.state c.args.notary.now) (g.N.Notary.state c.anchor.new.notary)) (sym job)
     (elim x [
@@ -117,14 +117,14 @@ returns-in-Head-clause-judged g c =
     let m = g.N.Notary.state c.head_reply.new.notary in
     let e = c.in_ok-refusal.ensures in
     let asked = subst (AsksFor c.args.job.now) c.in-Reading.is e.asked in
-    let job = asked_head c.args.job.now c.in-Reading.query asked c.in-Head.is in
+    let job = asked ∙ ap Ask c.in-Head.is in
     let x = c.head_reply.ensures.told in (
       x.0,
       λ h lane index line sink holds.
           let p = subst (λ (k : CommitterState). Keeps k h) (sym c.self.view_is) holds.keeps in
-          let none = none_waits _ h holds.keeps.serves.stands (sym (c.requires.settled (asks_closes c.args.job.now c.in-Reading.query asked)).0) in
+          let none = none_waits _ h holds.keeps.serves.stands (sym (c.requires.settled (ap closes_before asked)).0) in
           let y = x.1 h lane index line (subst (λ b. Serves b h) (sym (e.unchanged (subst PlacesNothing (sym c.in-Reading.is) tt))) p.serves) none in
-          told_judged _ _ n m h (step_in n m x.0 lane index line) c.args.job.now Head c.in_ok-refusal.field-0 c.in-Reading.query query.Head _ p (e.ok h p.serves) e.unchanged c.in-Reading.is c.in-Head.is job (unstamped_same n m x.0 lane index line y.1.list.list) y,
+          told_judged _ _ n m h (step_in n m x.0 lane index line) c.args.job.now (Ask query.Head) c.in_ok-refusal.field-0 c.in-Reading.query query.Head _ p (e.ok h p.serves) e.unchanged c.in-Reading.is c.in-Head.is job (unstamped_same n m x.0 lane index line y.1.list.list) y,
     )
 
 pub returns-in_ok-get-in-Get-clause-judged : goal.returns-in_ok-get-in-Get-clause-judged
@@ -137,13 +137,13 @@ returns-in_ok-get-in-Get-clause-judged g c =
       λ h lane index line sink holds.
           let p = subst (λ (k : CommitterState). Holds g.D.Disk.tells (world k disks sink) h) (sym c.self.view_is) holds in
           let step = step_in n n false lane index line in
-          let none = none_waits _ h holds.keeps.serves.stands (sym (c.requires.settled (asks_closes c.args.job.now c.in-Reading.query asked)).0) in
+          let none = none_waits _ h holds.keeps.serves.stands (sym (c.requires.settled (ap closes_before asked)).0) in
           let there = holds_book g.D.Disk.tells _ c.apply.new.self disks sink h (c.in_ok-refusal.ensures.unchanged nothing) p in
           let a = c.in_ok-refusal.ensures.ok h p.keeps.serves in
           record {
             judged = judged_same_kept _ _ h step c.args.job.now _ _ p.keeps a nothing c.in_ok-refusal.ensures.unchanged ungrown
-                (ap Reply (c.in_ok-get-in-Get.ensures.told h sink there none (subst (λ (k : CommitterState). k.ended ≡ 0) (sym c.self.view_is) (c.requires.settled (asks_closes c.args.job.now c.in-Reading.query asked)).1) ∙ ap (told_reply h step) (sym c.in-Get.is)) ∙ sym (ap (answer_for h step) c.in-Reading.is)) (unstamped n false lane index line);
-            attended = attends_other n h lane index line c.args.job.now (λ is own. let asks = anchor_asks _ h c.args.job.now _ _ (real_applies None c.self.inside.opened.book _ h c.args.job.now _ p.keeps.limits a) is own in let no : ⊥ = cc (asks, c.in-Reading.is, c.in-Get.is) in no);
+                (ap Reply (c.in_ok-get-in-Get.ensures.told h sink there none (subst (λ (k : CommitterState). k.ended ≡ 0) (sym c.self.view_is) (c.requires.settled (ap closes_before asked)).1) ∙ ap (told_reply h step) (sym c.in-Get.is)) ∙ sym (ap (answer_for h step) c.in-Reading.is)) (unstamped n false lane index line);
+            attended = attends_other n h lane index line c.args.job.now (λ is own. let no : ⊥ = cc (is, asked) in no);
           },
     )
 
@@ -151,6 +151,7 @@ pub returns-in_ok-reply-in-Clue-clause-judged : goal.returns-in_ok-reply-in-Clue
 returns-in_ok-reply-in-Clue-clause-judged g c =
     let n = g.N.Notary.state c.args.notary.now in
     let e = c.in_ok-refusal.ensures in
+    let asked = subst (AsksFor c.args.job.now) c.in-Reading.is e.asked in
     let nothing : PlacesNothing c.in_ok-refusal.field-0 = subst PlacesNothing (sym c.in-Reading.is) tt in (
       false,
       λ h lane index line sink holds.
@@ -161,7 +162,7 @@ returns-in_ok-reply-in-Clue-clause-judged g c =
           record {
             judged = judged_same_kept _ _ h step c.args.job.now _ _ p a nothing e.unchanged ungrown
                 (ap Reply (told ∙ ap (told_reply h step) (sym c.in-Clue.is)) ∙ sym (ap (answer_for h step) c.in-Reading.is)) (unstamped n false lane index line);
-            attended = attends_other n h lane index line c.args.job.now (λ is own. let asks = anchor_asks _ h c.args.job.now _ _ (real_applies None c.self.inside.opened.book _ h c.args.job.now _ p.limits a) is own in let no : ⊥ = cc (asks, c.in-Reading.is, c.in-Clue.is) in no);
+            attended = attends_other n h lane index line c.args.job.now (λ is own. let no : ⊥ = cc (is, asked) in no);
           },
     )
 
@@ -189,9 +190,9 @@ pub returns-in_ok-gather_placed-in-Placed-clause-gathers : goal.returns-in_ok-ga
 returns-in_ok-gather_placed-in-Placed-clause-gathers g c = λ other all.
     subst OpenGathers (sym c.in_ok-gather_placed-in-Placed.ensures.book) (c.in_ok-refusal.ensures.gathers other (subst (λ (k : CommitterState). OpenGathers k.book) (sym c.self.view_is) all))
 
-pub returns-in-Stamp-clause-gathers : goal.returns-in-Stamp-clause-gathers
-returns-in-Stamp-clause-gathers g c =
-    let job = asked_anchor c.args.job.now c.in-Reading.query (subst (AsksFor c.args.job.now) c.in-Reading.is c.in_ok-refusal.ensures.asked) c.in-Stamp.is in
+pub returns-in-StampWanted-clause-gathers : goal.returns-in-StampWanted-clause-gathers
+returns-in-StampWanted-clause-gathers g c =
+    let job = subst (AsksFor c.args.job.now) c.in-StampWanted.is c.in_ok-refusal.ensures.asked in
     on_ok_all c.anchor.result (λ other. absurd (let no : ⊥ = cc (sym (ap closes_after job) ∙ other) in no))
 
 pub returns-in_err-refusal-clause-unasked : goal.returns-in_err-refusal-clause-unasked
@@ -211,7 +212,7 @@ returns-in_ok-reply-in-Prove-clause-judged g c =
     let n = g.N.Notary.state c.args.notary.now in
     let m = g.N.Notary.state c.proof_of.new.notary in
     let e = c.in_ok-refusal.ensures in
-    let job = asked_prove c.args.job.now c.in-Reading.query c.in-Prove.n (subst (AsksFor c.args.job.now) c.in-Reading.is e.asked) c.in-Prove.is in
+    let job = subst (AsksFor c.args.job.now) c.in-Reading.is e.asked ∙ ap Ask c.in-Prove.is in
     let x = c.in_ok-reply-in-Prove.ensures.told in (
       x.0,
       λ h lane index line sink holds.
@@ -219,14 +220,14 @@ returns-in_ok-reply-in-Prove-clause-judged g c =
           let a = e.ok h p.serves in
           let accepted = asked_accepted real_limits h c.args.job.now _ c.in-Reading.query _ (real_applies None c.self.inside.opened.book _ h c.args.job.now _ p.limits a) c.in-Reading.is in
           let y = x.1 h lane index line (subst (λ b. Serves b h) (sym (e.unchanged (subst PlacesNothing (sym c.in-Reading.is) tt))) p.serves) (subst (λ (j : Job). own_refusal real_limits h j ≡ None) job accepted) in
-          told_judged _ _ n m h (step_in n m x.0 lane index line) c.args.job.now (Prove c.in-Prove.n) c.in_ok-refusal.field-0 c.in-Reading.query (query.Prove c.in-Prove.n) _ p a e.unchanged c.in-Reading.is c.in-Prove.is job (unstamped_same n m x.0 lane index line y.1.list.list) y,
+          told_judged _ _ n m h (step_in n m x.0 lane index line) c.args.job.now (Ask (query.Prove c.in-Prove.n)) c.in_ok-refusal.field-0 c.in-Reading.query (query.Prove c.in-Prove.n) _ p a e.unchanged c.in-Reading.is c.in-Prove.is job (unstamped_same n m x.0 lane index line y.1.list.list) y,
     )
 
 pub returns-in_err-reply-in-Prove-clause-unasked : goal.returns-in_err-reply-in-Prove-clause-unasked
 returns-in_err-reply-in-Prove-clause-unasked g c =
     let n = g.N.Notary.state c.args.notary.now in
     let m = g.N.Notary.state c.proof_of.new.notary in
-    let job = asked_prove c.args.job.now c.in-Reading.query c.in-Prove.n (subst (AsksFor c.args.job.now) c.in-Reading.is c.in_ok-refusal.ensures.asked) c.in-Prove.is in
+    let job = subst (AsksFor c.args.job.now) c.in-Reading.is c.in_ok-refusal.ensures.asked ∙ ap Ask c.in-Prove.is in
     on_err_all c.from_residual-in_err-reply-in-Prove.result
     (inl (false, λ h lane index line p. subst (λ (j : Job). Attended n m h (step_in n m false lane index line) j) (sym job) (c.in_err-reply-in-Prove.ensures.err h lane index line)))
 
@@ -235,7 +236,7 @@ returns-in_ok-reply-in-Extend-clause-judged g c =
     let n = g.N.Notary.state c.args.notary.now in
     let m = g.N.Notary.state c.extension_of.new.notary in
     let e = c.in_ok-refusal.ensures in
-    let job = asked_extend c.args.job.now c.in-Reading.query c.in-Extend.which c.in-Extend.m (subst (AsksFor c.args.job.now) c.in-Reading.is e.asked) c.in-Extend.is in
+    let job = subst (AsksFor c.args.job.now) c.in-Reading.is e.asked ∙ ap Ask c.in-Extend.is in
     let x = c.in_ok-reply-in-Extend.ensures.told in (
       x.0,
       λ h lane index line sink holds.
@@ -243,14 +244,14 @@ returns-in_ok-reply-in-Extend-clause-judged g c =
           let a = e.ok h p.serves in
           let accepted = asked_accepted real_limits h c.args.job.now _ c.in-Reading.query _ (real_applies None c.self.inside.opened.book _ h c.args.job.now _ p.limits a) c.in-Reading.is in
           let y = x.1 h lane index line (subst (λ b. Serves b h) (sym (e.unchanged (subst PlacesNothing (sym c.in-Reading.is) tt))) p.serves) (subst (λ (j : Job). own_refusal real_limits h j ≡ None) job accepted) in
-          told_judged _ _ n m h (step_in n m x.0 lane index line) c.args.job.now (Extend c.in-Extend.which c.in-Extend.m) c.in_ok-refusal.field-0 c.in-Reading.query (query.Extend c.in-Extend.which c.in-Extend.m) _ p a e.unchanged c.in-Reading.is c.in-Extend.is job (unstamped_same n m x.0 lane index line y.1.list.list) y,
+          told_judged _ _ n m h (step_in n m x.0 lane index line) c.args.job.now (Ask (query.Extend c.in-Extend.which c.in-Extend.m)) c.in_ok-refusal.field-0 c.in-Reading.query (query.Extend c.in-Extend.which c.in-Extend.m) _ p a e.unchanged c.in-Reading.is c.in-Extend.is job (unstamped_same n m x.0 lane index line y.1.list.list) y,
     )
 
 pub returns-in_err-reply-in-Extend-clause-unasked : goal.returns-in_err-reply-in-Extend-clause-unasked
 returns-in_err-reply-in-Extend-clause-unasked g c =
     let n = g.N.Notary.state c.args.notary.now in
     let m = g.N.Notary.state c.extension_of.new.notary in
-    let job = asked_extend c.args.job.now c.in-Reading.query c.in-Extend.which c.in-Extend.m (subst (AsksFor c.args.job.now) c.in-Reading.is c.in_ok-refusal.ensures.asked) c.in-Extend.is in
+    let job = subst (AsksFor c.args.job.now) c.in-Reading.is c.in_ok-refusal.ensures.asked ∙ ap Ask c.in-Extend.is in
     on_err_all c.from_residual-in_err-reply-in-Extend.result
     (inl (false, λ h lane index line p. subst (λ (j : Job). Attended n m h (step_in n m false lane index line) j) (sym job) (c.in_err-reply-in-Extend.ensures.err h lane index line)))
 
@@ -258,6 +259,6 @@ pub returns-in_ok-gather_placed-in-Placed-clause-order : goal.returns-in_ok-gath
 returns-in_ok-gather_placed-in-Placed-clause-order g c = λ all.
     c.in_ok-gather_placed-in-Placed.ensures.order (order_at (the_view c.self.inside) c.args.self.now c.self.view_is all)
 
-pub returns-in-Stamp-clause-order : goal.returns-in-Stamp-clause-order
-returns-in-Stamp-clause-order g c =
+pub returns-in-StampWanted-clause-order : goal.returns-in-StampWanted-clause-order
+returns-in-StampWanted-clause-order g c =
     on_ok_then c.anchor.result (λ order all. order (order_at (the_view c.self.inside) c.args.self.now c.self.view_is all)) c.anchor.ensures.order

@@ -1,5 +1,5 @@
 use Rattle.std.proofs.Common.{rules, ℕ, List, sym, ap, subst, ◌∙◌, arith}
-use Rattle.clue_lineage.specs.Lineages.{Item, Lineage}
+use Rattle.clue_lineage.specs.Lineages.{LineageItem, Lineage}
 use Rattle.clue_lineage.specs.Reading.{HasItems, items_in}
 use Rattle.clue_lineage.proofs.Spelled.{broken_front, broken_items, broken_end, whole_read, front_within, has_items, items_kept, read_so}
 use Rattle.clue_lineage.proofs.layout.Lineage.decode.Goals as goal
@@ -33,10 +33,10 @@ invariant_of-items c =
 
 pub returns : goal.returns
 returns c =
-    let shown : List Item → Lineage = λ items. record { size = c.in_ok-size.size; clue = c.in_ok-size.clue; items = items } in
+    let shown : List LineageItem → Lineage = λ items. record { size = c.in_ok-size.size; clue = c.in_ok-size.clue; items = items } in
     let kept = items_kept c.args.bytes.now c.new-reader.result c.new-reader.ensures (c.in_ok-size.size, c.in_ok-size.clue, c.in_ok-size.count) c.take_front.new.reader c.in_ok-size.ensures
     c.in_ok-pass_items.ensures.0 c.pass_items.new.reader c.in_ok-pass_items.ensures.1 (λ i. omega (arith, c.type_inv.bytes i)) (sym c.in_ok-end.ensures) in
     ap (λ (t : List ℕ). read_so (shown (items_in c.in_ok-size.count t))) c.split_at.ensures.back
-    ∙ ap (λ (xs : List Item). read_so (shown xs)) kept
+    ∙ ap (λ (xs : List LineageItem). read_so (shown xs)) kept
     ∙ whole_read c.args.bytes.now c.new-reader.result c.new-reader.ensures (c.in_ok-size.size, c.in_ok-size.clue, c.in_ok-size.count) c.take_front.new.reader c.in_ok-size.ensures
     c.in_ok-pass_items.ensures.0 c.pass_items.new.reader c.in_ok-pass_items.ensures.1 (λ i. omega (arith, c.type_inv.bytes i)) (sym c.in_ok-end.ensures)
