@@ -4,3 +4,4 @@ pub mod Offering
 pub mod Handing
 pub mod Working
 pub mod Windows
+pub mod Fronts

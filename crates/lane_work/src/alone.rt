@@ -4,7 +4,7 @@ ghost use Rattle.lane_work.specs.Offering.{OffersLine, RanAlone, LackedAlone};
 
 use crate::gate::Gate;
 use crate::kinds::LaneLine;
-use crate::preparing::prepare;
+use crate::preparing::prepare_behind;
 use crate::taker::{Flow, Taker};
 use crate::tools::Tools;
 use ledger_bytes::{Digest, NoMemory};
@@ -46,8 +46,11 @@ pub(crate) fn run_alone<R, V: Verifier, G: Gate, T: Taker>(
         (OffersLine (V.shows tools.now.verifier.now) id.now.0 T.offers) start lines.items taker.old taker.new) }
 {
     let mut index = start;
+    let mut front = None;
     for said in lines {
-        let Ok(item) = prepare(tools.alloc, tools.verifier, id, index, said.line.as_slice()) else {
+        let line = said.line.as_slice();
+        let Ok(item) = prepare_behind(tools.alloc, tools.verifier, &mut front, id, index, line)
+        else {
             return Err(NoMemory);
         };
         tools.gate.pass(said.lane, index);

@@ -9,6 +9,7 @@
 
 mod alone;
 mod divide;
+mod front;
 mod gate;
 mod hands;
 mod idle;

@@ -6,6 +6,7 @@ ghost use Rattle.script_lines.specs.Limits.{fits_line};
 ghost use Rattle.ledger_model.specs.Fitting.{fits_job};
 ghost use Rattle.ledger_model.specs.Rules.{job_for, job_of};
 
+use crate::front::Front;
 use crate::requests::{clue_occult_job, member_job, occult_job, purge_job, record_job};
 use journal_record::clue_digest;
 use ledger_book::{Job, Prepared, Query};
@@ -27,9 +28,27 @@ pub fn prepare<V: Verifier>(
     ensures index { IfOk result (λ item. item.index ≡ index) }
     ensures job { IfOk result (λ item. item.job ≡ job_of (V.shows verifier.now) id.now.0 line.now) }
 {
+    let mut front = None;
+    prepare_behind(alloc, verifier, &mut front, id, index, line)
+}
+
+/// The same of one of several lines. `front` is that of the last record's request, so that records of one member and clue
+/// share it.
+pub(crate) fn prepare_behind<V: Verifier>(
+    alloc: Global,
+    verifier: &V,
+    front: &mut Option<Front>,
+    id: &Digest,
+    index: u64,
+    line: &[u8],
+) -> Result<Prepared, NoMemory>
+    ensures lane { IfOk result (λ item. item.lane ≡ (spoken_line line.now).0) }
+    ensures index { IfOk result (λ item. item.index ≡ index) }
+    ensures job { IfOk result (λ item. item.job ≡ job_of (V.shows verifier.now) id.now.0 line.now) }
+{
     let Spoken { lane, what } = read_line(alloc, line)?;
     let job = match what {
-        Ok(line) => prepare_line(alloc, verifier, id, line)?,
+        Ok(line) => prepare_line(alloc, verifier, front, id, line)?,
         Err(refusal) => Job::Refused(refusal),
     };
     Ok(Prepared { lane, index, job })
@@ -39,6 +58,7 @@ pub fn prepare<V: Verifier>(
 fn prepare_line<V: Verifier>(
     alloc: Global,
     verifier: &V,
+    front: &mut Option<Front>,
     id: &Digest,
     line: Line,
 ) -> Result<Job, NoMemory>
@@ -55,6 +75,7 @@ fn prepare_line<V: Verifier>(
             number,
         } => record_job(
             verifier,
+            front,
             id,
             member,
             clue_digest(clue.as_slice()),

@@ -6,9 +6,10 @@ ghost use Rattle.script_lines.specs.Limits.{fits_approvals};
 ghost use Rattle.ledger_model.specs.Appends as appends;
 ghost use Rattle.ledger_model.specs.Fitting.{fits_job};
 
+use crate::front::{Front, request_behind};
 use journal_record::{
     Approval, approval_digest, clue_digest, clue_occult_request_digest, content_digest,
-    member_request_digest, occult_request_digest, purge_request_digest, request_digest,
+    member_request_digest, occult_request_digest, purge_request_digest,
 };
 use ledger_book::Job;
 use ledger_bytes::{Bytes, Digest, Items, NoMemory};
@@ -18,9 +19,10 @@ use std::alloc::Global;
 
 /// The job of a member's record with this clue, or with 32 zero bytes for none, and with this number of the request, or 0 for
 /// none, on the ledger with this id: with the digests that the member approves, the key that the proof shows to this
-/// verifier, and the digest of the approval.
+/// verifier, and the digest of the approval. `front` is that of the last record's request.
 pub(crate) fn record_job<V: Verifier>(
     verifier: &V,
+    front: &mut Option<Front>,
     id: &Digest,
     member: u32,
     clue: Digest,
@@ -36,7 +38,7 @@ pub(crate) fn record_job<V: Verifier>(
 {
     let digest = content_digest(content.as_slice());
     let content_len = content.as_slice().len() as u32;
-    let request = request_digest(id, member, &clue, content_len, &digest, number);
+    let request = request_behind(front, id, member, &clue, content_len, &digest, number);
     let key = verifier.key_of(&request, proof.as_slice());
     let by = Approval { member, key, proof };
     let who = approval_digest(&by);

@@ -4,9 +4,10 @@ ghost use Rattle.intake_queue.specs.Lanes.{sender, first_in, quota_in};
 ghost use Rattle.intake_queue.specs.Passes.{lane_view, sent_by, IsLaneOf};
 ghost use Rattle.lane_work.specs.Making.{IsMadeOf, AllMade};
 
+use crate::front::Front;
 use crate::gate::Gate;
 use crate::kinds::{LaneLine, Made};
-use crate::preparing::prepare;
+use crate::preparing::prepare_behind;
 use crate::tools::Tools;
 use intake_queue::{Intake, LanePass};
 use ledger_bytes::Digest;
@@ -16,12 +17,19 @@ use std::snapshot::Snapshot;
 use std::sync::Wait;
 
 // Prepares a line, as far as there is memory.
-fn make<V: Verifier>(alloc: Global, verifier: &V, id: &Digest, index: u64, said: &LaneLine) -> Made
+fn make<V: Verifier>(
+    alloc: Global,
+    verifier: &V,
+    front: &mut Option<Front>,
+    id: &Digest,
+    index: u64,
+    said: &LaneLine,
+) -> Made
     ensures { IsMadeOf (V.shows verifier.now) id.now.0 said.now index result }
 {
     let lane = said.lane;
     let line = Snapshot::of(&said.line);
-    let item = prepare(alloc, verifier, id, index, said.line.as_slice());
+    let item = prepare_behind(alloc, verifier, front, id, index, said.line.as_slice());
     Made {
         lane,
         index,
@@ -50,8 +58,9 @@ pub(crate) fn work<R: Wait, V: Verifier, G: Gate>(
     ensures sent { AllMade (V.shows tools.now.verifier.now) id.now.0 start lines.items (sent_by result) }
 {
     let mut index = start;
+    let mut front = None;
     for said in lines {
-        let item = make(tools.alloc, tools.verifier, id, index, &said);
+        let item = make(tools.alloc, tools.verifier, &mut front, id, index, &said);
         tools.gate.pass(said.lane, index);
         pass = intake.submit(tools.rt, pass, item);
         index += 1;

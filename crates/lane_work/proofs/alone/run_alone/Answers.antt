@@ -16,14 +16,14 @@ returns-in-Stop-clause-ok g c =
     let i = c.loop-said.invariant in
     let rest : List LaneLine = into_iter_items c.next.new.self in
     let whole = ap (λ (l : List LaneLine). c.loop-said.yielded ++ l) (sym c.in-Some.ensures.steps.0) ∙ i.2 in
-    let is = prepared_is _ _ c.in-Some.said c.loop-said.index (c.args.start + length c.loop-said.yielded) c.in-Ok.item c.as_slice.result.now i.3 c.as_slice.ensures c.in-Ok.ensures.lane c.in-Ok.ensures.index c.in-Ok.ensures.job in
+    let is = prepared_is _ _ c.in-Some.said c.loop-said.index (c.args.start + length c.loop-said.yielded) c.in-Ok.item c.as_slice-line.result.now i.3 c.as_slice-line.ensures c.in-Ok.ensures.lane c.in-Ok.ensures.index c.in-Ok.ensures.job in
     inr (alone_stops _ _ _ c.args.start c.loop-said.yielded rest _ c.in-Some.said c.in-Ok.item _ _ _ whole is i.5 c.in-Stop.ensures.does)
 
 pub loop-said-preserved : goal.loop-said-preserved
 loop-said-preserved g c =
     let i = c.loop-said.invariant in
     let rest : List LaneLine = into_iter_items c.next.new.self in
-    let is = prepared_is _ _ c.in-Some.said c.loop-said.index (c.args.start + length c.loop-said.yielded) c.in-Ok.item c.as_slice.result.now i.3 c.as_slice.ensures c.in-Ok.ensures.lane c.in-Ok.ensures.index c.in-Ok.ensures.job in (
+    let is = prepared_is _ _ c.in-Some.said c.loop-said.index (c.args.start + length c.loop-said.yielded) c.in-Ok.item c.as_slice-line.result.now i.3 c.as_slice-line.ensures c.in-Ok.ensures.lane c.in-Ok.ensures.index c.in-Ok.ensures.job in (
       tt,
       tt,
       append_assoc c.loop-said.yielded (c.in-Some.said ∷ []) rest ∙ ap (λ (l : List LaneLine). c.loop-said.yielded ++ l) (sym c.in-Some.ensures.steps.0) ∙ i.2,

@@ -6,8 +6,8 @@ use Rattle.lane_work.proofs.requests.record_job.Goals as goal
 
 pub returns-clause-job : goal.returns-clause-job
 returns-clause-job g c =
-    record_is _ c.args.id.now.0 c.args.member c.args.clue c.args.content c.args.proof c.as_slice.result.now c.as_slice-3.result.now (length c.as_slice-2.result.now) c.content_digest-digest.result c.request_digest-request.result c.key_of-key.result c.approval_digest-who.result c.args.number
-    c.content_digest-digest.ensures c.as_slice.ensures c.request_digest-request.ensures (ap length c.as_slice-2.ensures) c.key_of-key.ensures c.as_slice-3.ensures c.approval_digest-who.ensures
+    record_is _ c.args.id.now.0 c.args.member c.args.clue c.args.content c.args.proof c.as_slice.result.now c.as_slice-3.result.now (length c.as_slice-2.result.now) c.content_digest-digest.result c.request_behind-request.result c.key_of-key.result c.approval_digest-who.result c.args.number
+    c.content_digest-digest.ensures c.as_slice.ensures c.request_behind-request.ensures (ap length c.as_slice-2.ensures) c.key_of-key.ensures c.as_slice-3.ensures c.approval_digest-who.ensures
 
 pub returns-clause-fits : goal.returns-clause-fits
 returns-clause-fits g c =

@@ -2,8 +2,8 @@ use Rattle.std.proofs.Common.{ℕ, Result, Ok, Err, ap, ◌∙◌}
 use Rattle.ledger_bytes.specs.declared.refusal.Refusal.{Refusal}
 use Rattle.script_lines.specs.declared.line.Line.{Line}
 use Rattle.lane_work.proofs.JobLaws.{job_asked}
-use Rattle.lane_work.proofs.preparing.prepare.Goals as goal
-use Rattle.lane_work.proofs.preparing.prepare.Goals.{in-Ok+in_ok-job-in-Ok, in-Err}
+use Rattle.lane_work.proofs.preparing.prepare_behind.Goals as goal
+use Rattle.lane_work.proofs.preparing.prepare_behind.Goals.{in-Ok+in_ok-job-in-Ok, in-Err}
 
 pub returns-clause-job : goal.returns-clause-job
 returns-clause-job g c =
